@@ -1,7 +1,7 @@
 -- Inputs that are added one after another.
 use Rattle.std.proofs.Common.{◌≡◌, ◌⊎◌, inl, inr, ℕ, suc, ◌+◌, ◌-◌, ◌*◌, ◌<◌, ◌≤◌, ◌∙◌, List, [], ◌∷◌, ◌++◌, drop, length, refl, sym, ap, subst, arith, append_assoc, append-nil, get_or, All, Contains}
 use Rattle.std.proofs.Math.Nat.{suc-mul}
-use Rattle.std.proofs.lemmas.List.{at_drop_more, at_drop_all}
+use Rattle.std.proofs.lemmas.List.{at_drop_more}
 use Rattle.std.proofs.lemmas.List.Elements.{Contains-append_cases, Contains-append_left, Contains-append_right}
 use Rattle.prop_core.specs.declared.lit.Lit.{Lit}
 use Rattle.prop_core.specs.ClauseStore.{ClauseStore}
@@ -104,20 +104,6 @@ module _ (old : CounterState) (inputs : List Lit) (first : ℕ) (written : List 
     where
       input : Lit
       input = get_or inputs done d
-
--- the whole, where all are added
-pub all_added : (old : CounterState) (inputs : List Lit) (first : ℕ) (written : List Clause) (done : ℕ) (state : CounterState) (vars : ℕ) (store : ClauseStore) →
-    AreAdded old inputs first written done state vars store → length inputs ≤ done → AddsInputs inputs old first written state vars store.clauses
-all_added old inputs first written done state vars store are all = record {
-  counter = sym (at_drop_all (λ xs. with_inputs state xs vars) inputs done all) ∙ are.leads;
-  clauses = sym (append-nil store.clauses) ∙ ap (λ xs. store.clauses ++ xs) (sym (at_drop_all (λ xs. inputs_clauses state xs vars) inputs done all)) ∙ are.writes;
-  vars =
-      let none : length inputs - done ≡ 0 = omega (arith, all) in
-      let nothing : 0 * length old.columns ≡ 0 = omega arith in
-      let rest : (length inputs - done) * length old.columns ≡ 0 = ap (λ n. n * length old.columns) none ∙ nothing in
-      let is = are.count in omega (arith, rest, is);
-  made = are.made;
-}
 
 -- ---- the law
 

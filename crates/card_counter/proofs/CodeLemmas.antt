@@ -2,16 +2,18 @@
 use Rattle.std.proofs.Common.{◌≢◌, Contains, ◌≡◌, ℕ, zero, suc, ◌+◌, ◌<◌, ◌≤◌, ◌∙◌, ◌⊎◌, inl, inr, List, [], ◌∷◌, ◌++◌, flat_map, length, Option, None, Some, refl, sym, ap, subst, arith, slice_get, option_map, not}
 use Rattle.std.specs.List.{range_with_len}
 use Rattle.std.proofs.lemmas.Bool.{cases_order}
-use Rattle.des_base.proofs.Elements.{all_at}
+use Rattle.des_base.proofs.Elements.{all_at, pairs_append}
 use Rattle.prop_core.proofs.NameLemmas.{found_more, literal_more}
 use Rattle.prop_core.specs.declared.lit.Lit.{Lit}
 use Rattle.prop_core.specs.Clauses.{Clause, negation}
 use Rattle.prop_core.specs.NamedClauses.{IsCode}
 use Rattle.prop_core.specs.VariableNames.{HasEachOnce, Meaning, NamedLiteral, yes, no, reaches, meaning_of, named_literal, with_literal, named_clause}
 use Rattle.prop_core.proofs.FamilyLemmas.{Alone, Either, EachBelow, code_none, code_one, code_append, code_same, code_each_none, code_each_more, reads_whole}
+use Rattle.prop_core.proofs.Listed.{read_parts}
 use Rattle.std.proofs.lemmas.List.Elements.{Contains-append_right}
+use Rattle.std.proofs.lemmas.Option.{same_Some}
 use Rattle.card_counter.proofs.NameLemmas.{named_by_entry}
-use Rattle.card_counter.proofs.ListLemmas.{map_of, map_contains, pairs_put, pairs_map, flat_next}
+use Rattle.card_counter.proofs.ListLemmas.{map_of, map_contains, pairs_map, flat_next}
 use Rattle.card_counter.proofs.States.{place_cases, variable_before, variable_last, before_front, at_end, one_more_column}
 use Rattle.card_counter.specs.CounterClauses.{counts_on, counts_up, opposite, count_clause, IsNamedColumn, IsNamedCount}
 use Rattle.card_counter.specs.CounterState.{next_meanings, CounterState, IsPlace, variable, column_at, column_before, positive, negative, reached_in, reached_before, under, place_clauses, input_at, column_clauses, counter_clauses, with_column}
@@ -35,25 +37,20 @@ pub record IsRead (names : List (ℕ × Meaning)) (input : Lit) (read : List Nam
   pub at : slice_get read i ≡ Some literal
   pub as_read : named_literal names input ≡ Some literal
 
-first_read : (o : Option NamedLiteral) (r : Option (List NamedLiteral)) (read : List NamedLiteral) → with_literal o r ≡ Some read → (x : NamedLiteral) × (xs : List NamedLiteral) × (o ≡ Some x) × (r ≡ Some xs) × (read ≡ x ∷ xs)
-first_read None r read h = cc
-first_read (Some x) None read h = cc
-first_read (Some x) (Some xs) read h = let same : read ≡ x ∷ xs = cc in (x, xs, refl, refl, same)
-
 pub read_at : (names : List (ℕ × Meaning)) (inputs : List Lit) (read : List NamedLiteral) → named_clause names inputs ≡ Some read → (i : ℕ) → i < length inputs → IsRead names (input_at inputs i) read i
 read_at names [] read h i inside = absurd (omega arith)
 read_at names (l ∷ inputs) read h zero inside =
-    let first = first_read (named_literal names l) (named_clause names inputs) read h in
+    let first = read_parts (named_literal names l) (named_clause names inputs) read h in
     record { literal = first.0; at = ap (λ xs. slice_get xs 0) first.4; as_read = first.2 }
 read_at names (l ∷ inputs) read h (suc i) inside =
-    let first = first_read (named_literal names l) (named_clause names inputs) read h in
+    let first = read_parts (named_literal names l) (named_clause names inputs) read h in
     let rest = read_at names inputs first.1 first.3 i (omega arith) in
     record { literal = rest.literal; at = ap (λ xs. slice_get xs (suc i)) first.4 ∙ rest.at; as_read = rest.as_read }
 
 pub read_length : (names : List (ℕ × Meaning)) (inputs : List Lit) (read : List NamedLiteral) → named_clause names inputs ≡ Some read → length read ≡ length inputs
 read_length names [] read h = let same : read ≡ [] = cc in ap length same
 read_length names (l ∷ inputs) read h =
-    let first = first_read (named_literal names l) (named_clause names inputs) read h in
+    let first = read_parts (named_literal names l) (named_clause names inputs) read h in
     ap length first.4 ∙ ap suc (read_length names inputs first.1 first.3)
 
 pub read_negation : (names : List (ℕ × Meaning)) (l : Lit) (x : NamedLiteral) → named_literal names l ≡ Some x → named_literal names (negation l) ≡ Some (opposite x)
@@ -99,11 +96,8 @@ module _ (names : List (ℕ × Meaning)) (read : List NamedLiteral) (state : Cou
   counted_one : (i j : ℕ) (clause : Clause) (at : IsRead names (input_at state.inputs i) read i) → (j ≡ 0) ⊎ (1 ≤ i) → named_clause names clause ≡ Some (count_clause (counts_up i j at.literal)) → IsCode names (Counted j i) (clause ∷ [])
   counted_one i j clause at low reads = code_same names (Alone (count_clause (counts_up i j at.literal))) (Counted j i) (clause ∷ [])
       (λ literals same. (at.literal, at.at, low, same))
-      (λ literals is. let same : at.literal ≡ is.0 = some_same at.literal is.0 (sym at.at ∙ is.1) in ap (λ x. count_clause (counts_up i j x)) same ∙ is.3)
+      (λ literals is. let same : at.literal ≡ is.0 = same_Some at.literal is.0 (sym at.at ∙ is.1) in ap (λ x. count_clause (counts_up i j x)) same ∙ is.3)
       (code_one names clause (count_clause (counts_up i j at.literal)) (reads_whole names clause (count_clause (counts_up i j at.literal)) reads))
-    where
-      some_same : (x y : NamedLiteral) → Some x ≡ Some y → x ≡ y
-      some_same x y h = cc
 
   counted_code : (i j : ℕ) → IsPlace state i j → IsCode names (Counted j i) (under (reached_before (column_before state.columns j) i) (negation (input_at state.inputs i) ∷ positive (variable state i j) ∷ []))
   counted_code i zero place =
@@ -207,7 +201,7 @@ named_columns_grow inputs = record {
 read_more : (names more : List (ℕ × Meaning)) (inputs : List Lit) (read : List NamedLiteral) → named_clause names inputs ≡ Some read → named_clause (names ++ more) inputs ≡ Some read
 read_more names more [] read h = h
 read_more names more (l ∷ inputs) read h =
-    let first = first_read (named_literal names l) (named_clause names inputs) read h in
+    let first = read_parts (named_literal names l) (named_clause names inputs) read h in
     ap (λ o. with_literal o (named_clause (names ++ more) inputs)) (literal_more names more l first.0 first.2)
     ∙ ap (with_literal (Some first.0)) (read_more names more inputs first.1 first.3)
     ∙ ap Some (sym first.4)
@@ -234,7 +228,7 @@ counter_meanings_grow names read state first once below none named = (all_once, 
         ((λ same. omega (arith, made, var, same)), (λ same. other (suc at.0) (same ∙ sym meaning)))
 
     all_once : HasEachOnce (names ++ more)
-    all_once = pairs_put Differ names more once
+    all_once = pairs_append Differ names more once
         (pairs_map Differ entry (length state.inputs) (λ i k less inside. ((λ same. omega arith), (λ same. let e : i ≡ k = cc in omega arith)))) across
 
     called : (i j : ℕ) → IsPlace (with_column state first) i j → meaning_of (names ++ more) (variable (with_column state first) i j) ≡ Some (reaches (suc i) (suc j))

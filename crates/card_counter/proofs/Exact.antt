@@ -4,7 +4,7 @@ use Rattle.std.specs.Bool.{beq}
 use Rattle.std.proofs.lemmas.Bool.{leb-true, cases_lt}
 use Rattle.std.proofs.lemmas.Option.{slice_get-get_or}
 use Rattle.des_base.proofs.Elements.{all_append, all_split, contains_at, all_from}
-use Rattle.prop_core.proofs.Premises.{implied, implies, from_premise, one_premise}
+use Rattle.prop_core.proofs.Premises.{implied, implies, from_premise, one_premise, alone, alone_back, without_literal, with_literal_false, last_literal, last_literal_true}
 use Rattle.prop_core.specs.declared.lit.Lit.{Lit}
 use Rattle.prop_core.specs.Clauses.{Clause, negation, literal_true, clause_true, AllClausesTrue}
 use Rattle.prop_core.specs.NamedClauses.{same_sign, named_true, named_clause_true, assignment_by, AllHold}
@@ -19,14 +19,6 @@ use Rattle.prop_core.specs.Trail.{no_literal}
 
 -- ---- clauses with premises
 
-beq_true : (b : Bool) → beq b true ≡ b
-beq_true true = refl
-beq_true false = refl
-
-beq_false : (b : Bool) → beq b false ≡ not b
-beq_false true = refl
-beq_false false = refl
-
 without_premise : (a b : Bool) → beq a false || b ≡ true → a ≡ true → b ≡ true
 without_premise true b h e = h
 without_premise false b h e = cc
@@ -34,26 +26,6 @@ without_premise false b h e = cc
 with_premise : (a b : Bool) → (a ≡ true → b ≡ true) → beq a false || b ≡ true
 with_premise true b h = h refl
 with_premise false b h = refl
-
-alone : (b : Bool) → beq b true || false ≡ true → b ≡ true
-alone true h = refl
-alone false h = cc
-
-alone_back : (b : Bool) → b ≡ true → beq b true || false ≡ true
-alone_back true h = refl
-alone_back false h = cc
-
-without_literal : (a b c : Bool) → beq a (not b) || c ≡ true → beq a b ≡ true → c ≡ true
-without_literal true true c h e = h
-without_literal true false c h e = cc
-without_literal false true c h e = cc
-without_literal false false c h e = h
-
-with_literal_false : (a b c : Bool) → (beq a b ≡ true → c ≡ true) → beq a (not b) || c ≡ true
-with_literal_false true true c h = h refl
-with_literal_false true false c h = refl
-with_literal_false false true c h = refl
-with_literal_false false false c h = h refl
 
 abbrev tells : (ℕ → Bool) → Reached → Bool
 tells value always = true
@@ -109,13 +81,13 @@ module _ (state : CounterState) (value : ℕ → Bool) where
       let both = parts_at all i j place in
       let clause = under_says value (reached_before (column_before state.columns j) i) (negation (input_at state.inputs i) ∷ positive (variable state i j) ∷ []) both.1 premise in
       let input : literal_true value (input_at state.inputs i) ≡ true = ap (literal_true value) (input_is state.inputs i x at) ∙ is in
-      alone (value (variable state i j)) (without_literal (value (input_at state.inputs i).var) (input_at state.inputs i).positive (literal_true value (positive (variable state i j)) || false) clause input)
+      last_literal (value (variable state i j)) (without_literal (value (input_at state.inputs i).var) (input_at state.inputs i).positive (literal_true value (positive (variable state i j)) || false) clause input)
 
   pub rules_from : Said (counter_clauses state) → Reaches (literal_true value) state.inputs (length state.columns) seen
   rules_from all = record {
     kept = λ i j inside h is.
         let both = parts_at all (suc i) j (record { input = inside; column = h }) in
-        alone (value (variable state (suc i) j)) (under_says value (told_by (variable state i j)) (positive (variable state (suc i) j) ∷ []) both.0 is);
+        last_literal (value (variable state (suc i) j)) (under_says value (told_by (variable state i j)) (positive (variable state (suc i) j) ∷ []) both.0 is);
     counted = up;
   }
     where
@@ -135,18 +107,18 @@ module _ (state : CounterState) (value : ℕ → Bool) where
     kept_said (suc i) j place =
         let before : IsPlace state i j = record { input = omega (arith, place.input); column = place.column } in
         under_said value (told_by (variable state i j)) (positive (variable state (suc i) j) ∷ [])
-        (λ is. alone_back (value (variable state (suc i) j)) (counts (suc i) j place ∙ rules.kept i j place.input place.column (sym (counts i j before) ∙ is)))
+        (λ is. last_literal_true (value (variable state (suc i) j)) (counts (suc i) j place ∙ rules.kept i j place.input place.column (sym (counts i j before) ∙ is)))
 
     counted_said : (i j : ℕ) → IsPlace state i j → Said (under (reached_before (column_before state.columns j) i) (negation (input_at state.inputs i) ∷ positive (variable state i j) ∷ []))
     counted_said i zero place = under_said value always (negation (input_at state.inputs i) ∷ positive (variable state i 0) ∷ []) (λ is.
         with_literal_false (value (input_at state.inputs i).var) (input_at state.inputs i).positive (literal_true value (positive (variable state i 0)) || false) (λ input.
-        alone_back (value (variable state i 0)) (counts i 0 place ∙ rules.counted i 0 (input_at state.inputs i) (slice_get-get_or state.inputs i no_literal place.input) place.column input (inl refl))))
+        last_literal_true (value (variable state i 0)) (counts i 0 place ∙ rules.counted i 0 (input_at state.inputs i) (slice_get-get_or state.inputs i no_literal place.input) place.column input (inl refl))))
     counted_said zero (suc j) place = tt
     counted_said (suc i) (suc j) place =
         let before : IsPlace state i j = record { input = omega (arith, place.input); column = omega (arith, place.column) } in
         under_said value (told_by (variable state i j)) (negation (input_at state.inputs (suc i)) ∷ positive (variable state (suc i) (suc j)) ∷ []) (λ is.
         with_literal_false (value (input_at state.inputs (suc i)).var) (input_at state.inputs (suc i)).positive (literal_true value (positive (variable state (suc i) (suc j))) || false) (λ input.
-        alone_back (value (variable state (suc i) (suc j))) (counts (suc i) (suc j) place
+        last_literal_true (value (variable state (suc i) (suc j))) (counts (suc i) (suc j) place
         ∙ rules.counted (suc i) (suc j) (input_at state.inputs (suc i)) (slice_get-get_or state.inputs (suc i) no_literal place.input) place.column input (inr (omega arith, sym (counts i j before) ∙ is)))))
 
     pub all_said : Said (counter_clauses state)
@@ -267,14 +239,6 @@ input_unless_back true false b h = refl
 input_unless_back false true b h = refl
 input_unless_back false false b h = h refl
 
-or_nothing : (b : Bool) → b || false ≡ true → b ≡ true
-or_nothing true h = refl
-or_nothing false h = cc
-
-or_nothing_back : (b : Bool) → b ≡ true → b || false ≡ true
-or_nothing_back true h = refl
-or_nothing_back false h = cc
-
 module _ (inputs : List NamedLiteral) (value : Meaning → Bool) where
   named_rules : (columns : ℕ) → AllHold (IsNamedCount inputs columns) value → Reaches (named_true value) inputs columns (λ i j. value (reaches i j))
   named_rules columns all = record {
@@ -285,10 +249,10 @@ module _ (inputs : List NamedLiteral) (value : Meaning → Bool) where
     where
       up : (i j : ℕ) (x : NamedLiteral) → slice_get inputs i ≡ Some x → j < columns → named_true value x ≡ true → (j ≡ 0) ⊎ ((1 ≤ i) × (value (reaches i j) ≡ true)) → value (reaches (suc i) (suc j)) ≡ true
       up i zero x at h is premise =
-          or_nothing (value (reaches (suc i) 1)) (input_unless (value x.meaning) x.positive (value (reaches (suc i) 1) || false) (all (count_clause (counts_up i 0 x)) (counts_up i 0 x, (at, inl refl), h, refl)) is)
+          alone (value (reaches (suc i) 1)) (input_unless (value x.meaning) x.positive (value (reaches (suc i) 1) || false) (all (count_clause (counts_up i 0 x)) (counts_up i 0 x, (at, inl refl), h, refl)) is)
       up i (suc j) x at h is (inl none) = absurd (omega arith)
       up i (suc j) x at h is (inr some) =
-          or_nothing (value (reaches (suc i) (suc (suc j)))) (input_unless (value x.meaning) x.positive (value (reaches (suc i) (suc (suc j))) || false)
+          alone (value (reaches (suc i) (suc (suc j)))) (input_unless (value x.meaning) x.positive (value (reaches (suc i) (suc (suc j))) || false)
           (from_premise (value (reaches i (suc j))) (named_true value (opposite x) || (value (reaches (suc i) (suc (suc j))) || false)) (all (count_clause (counts_up i (suc j) x)) (counts_up i (suc j) x, (at, inr some.0), h, refl)) some.1) is)
 
   named_few : (columns k : ℕ) → AllHold (IsNamedCount inputs columns) value → k < columns → value (reaches (length inputs) (suc k)) ≡ false → count_by (named_true value) inputs ≤ k
@@ -326,11 +290,11 @@ module _ (inputs : List NamedLiteral) (value : Meaning → Bool) where
         implies (counted inputs value (reaches (suc i) (suc j))) (counted inputs value (reaches (suc (suc i)) (suc j))) (λ h. (counting (named_true value) inputs columns).kept i j is.1 of h)
     holds_by_name columns (counts_up i zero x) is of =
         input_unless_back (counted inputs value x.meaning) x.positive (counted inputs value (reaches (suc i) 1) || false) (λ h.
-        or_nothing_back (counted inputs value (reaches (suc i) 1)) ((counting (named_true value) inputs columns).counted i 0 x is.0 of (sym (same_input x (contains_at inputs i x is.0)) ∙ h) (inl refl)))
+        alone_back (counted inputs value (reaches (suc i) 1)) ((counting (named_true value) inputs columns).counted i 0 x is.0 of (sym (same_input x (contains_at inputs i x is.0)) ∙ h) (inl refl)))
     holds_by_name columns (counts_up i (suc j) x) is of =
         one_premise (counted inputs value (reaches i (suc j))) (named_true (counted inputs value) (opposite x) || (counted inputs value (reaches (suc i) (suc (suc j))) || false)) (λ r.
         input_unless_back (counted inputs value x.meaning) x.positive (counted inputs value (reaches (suc i) (suc (suc j))) || false) (λ h.
-        or_nothing_back (counted inputs value (reaches (suc i) (suc (suc j)))) ((counting (named_true value) inputs columns).counted i (suc j) x is.0 of
+        alone_back (counted inputs value (reaches (suc i) (suc (suc j)))) ((counting (named_true value) inputs columns).counted i (suc j) x is.0 of
         (sym (same_input x (contains_at inputs i x is.0)) ∙ h) (inr (low is.1, r)))))
       where
         low : (suc j ≡ 0) ⊎ (1 ≤ i) → 1 ≤ i

@@ -1,20 +1,15 @@
 -- Lists: facts of all elements, fronts, and lists that are put together number by number.
-use Rattle.std.proofs.Common.{◌≡◌, ℕ, zero, suc, ◌+◌, ◌<◌, ◌∙◌, List, [], ◌∷◌, ◌++◌, map, flat_map, take, Some, refl, sym, ap, subst, arith, slice_get, Contains, append-nil, append_assoc, ◌⊎◌, inl, inr}
+use Rattle.std.proofs.Common.{◌≡◌, ℕ, zero, suc, ◌+◌, ◌<◌, ◌∙◌, List, [], ◌∷◌, ◌++◌, map, flat_map, refl, sym, ap, subst, arith, Contains, append-nil, append_assoc, ◌⊎◌, inl, inr}
 use Rattle.std.specs.List.{AllByRecursion, range_with_len}
 use Rattle.std.proofs.lemmas.List.Elements.{Contains-append_left, Contains-append_right, Contains-append_cases}
 use Rattle.std.proofs.lemmas.Bool.{cases_order}
-use Rattle.des_base.proofs.Elements.{all_append, all_split, all_from}
+use Rattle.des_base.proofs.Elements.{all_append, all_split, pairs_append}
+pub use Rattle.des_base.proofs.Elements.{take_push as take_more}
 use Rattle.des_base.specs.Lists.{EachPair}
 
 pub all_both : {X : Type 0} (P Q : X → Type 0) (xs : List X) → AllByRecursion P xs → AllByRecursion Q xs → AllByRecursion (λ x. P x × Q x) xs
 all_both P Q [] first second = tt
 all_both P Q (x ∷ xs) first second = ((first.0, second.0), all_both P Q xs first.1 second.1)
-
--- one more element of a front
-pub take_more : {X : Type 0} (xs : List X) (k : ℕ) (x : X) → slice_get xs k ≡ Some x → take (suc k) xs ≡ take k xs ++ x ∷ []
-take_more [] k x h = cc
-take_more (y ∷ xs) zero x h = let same : y ≡ x = cc in ap (λ z. z ∷ []) same
-take_more (y ∷ xs) (suc k) x h = ap (λ rest. y ∷ rest) (take_more xs k x h)
 
 -- ---- a list for each number
 
@@ -90,17 +85,9 @@ map_of f n x here =
     only y (zero, below, is) = is
     only y (suc k, below, is) = absurd (omega arith)
 
--- each element with each later one
-pub pairs_put : {X : Type 0} (R : X → X → Type 0) (xs ys : List X) → EachPair R xs → EachPair R ys → ((x y : X) → Contains xs x → Contains ys y → R x y) → EachPair R (xs ++ ys)
-pairs_put R [] ys first second across = second
-pairs_put R (x ∷ xs) ys first second across = (
-  all_append (R x) xs ys first.0 (all_from (R x) ys (λ y here. across x y (0, omega arith, refl) here)),
-  pairs_put R xs ys first.1 second (λ z y here there. across z y (suc here.0, omega (arith, here.1), here.2) there),
-)
-
 pub pairs_flat : {X : Type 0} (R : X → X → Type 0) (f : ℕ → List X) (n : ℕ) → ((i : ℕ) → i < n → EachPair R (f i)) → ((i k : ℕ) (x y : X) → i < k → k < n → Contains (f i) x → Contains (f k) y → R x y) → EachPair R (flat_map f (range_with_len 0 n))
 pairs_flat R f zero within across = tt
-pairs_flat R f (suc n) within across = subst (EachPair R) (sym (flat_next f n)) (pairs_put R (flat_map f (range_with_len 0 n)) (f n)
+pairs_flat R f (suc n) within across = subst (EachPair R) (sym (flat_next f n)) (pairs_append R (flat_map f (range_with_len 0 n)) (f n)
     (pairs_flat R f n (λ i h. within i (omega arith)) (λ i k x y less h here there. across i k x y less (omega arith) here there))
     (within n (omega arith))
     (λ x y here there. let from = flat_of f n x here in across from.0 n x y from.1 (omega arith) from.2 there))

@@ -5,14 +5,14 @@ use Rattle.std.specs.List.{AllZip, range_with_len}
 use Rattle.std.proofs.lemmas.Bool.{ltb-true, lt-ltb}
 use Rattle.std.proofs.lemmas.List.FromFn.{length-map-range_with_len}
 use Rattle.std.proofs.lemmas.Option.{slice_get_within, slice_get-get_or, get_or_from_slice_get}
-use Rattle.des_base.proofs.Elements.{some_at, zip_append, take_whole}
+use Rattle.des_base.proofs.Elements.{some_at, zip_append, take_whole, take_push}
 use Rattle.prop_core.specs.declared.lit.Lit.{Lit}
 use Rattle.prop_core.specs.Clauses.{Clause, negation}
 use Rattle.prop_core.specs.VariableNames.{Meaning, Exclusion, asked, some_of_first, NamedLiteral, yes, no, named_literal, named_clause}
 use Rattle.prop_core.proofs.FamilyLemmas.{code_same}
 use Rattle.card_counter.proofs.CodeLemmas.{read_negation, read_two}
 use Rattle.card_counter.proofs.Exclusions.{count as called_count, input_reads, open_reads}
-use Rattle.card_counter.proofs.ListLemmas.{take_more, map_as_flat, flat_next, flat_of, flat_contains, map_of, map_contains}
+use Rattle.card_counter.proofs.ListLemmas.{map_as_flat, flat_next, flat_of, flat_contains, map_of, map_contains}
 use Rattle.card_counter.proofs.PairLemmas.{pairs_take}
 use Rattle.card_counter.specs.AtMostOne.{not_both, excluded_pairs, link_clauses, chain_clauses, exclusion_clauses, IsNamedChain, ExclusionIsCode, ExclusionIsListed}
 use Rattle.card_counter.specs.CounterState.{positive, negative, input_at}
@@ -187,7 +187,7 @@ module _ (names : List (ℕ × Meaning)) (family : Exclusion) (called : List Mea
   row_reads r x at_r zero inside = tt
   row_reads r x at_r (suc k) inside =
       let at = some_at inputs k (omega (arith, inside)) in
-      let left : map (not_both x) (take (suc k) inputs) ≡ map (not_both x) (take k inputs) ++ not_both x at.0 ∷ [] = ap (map (not_both x)) (take_more inputs k at.0 at.1) ∙ map-append (not_both x) (take k inputs) (at.0 ∷ []) in
+      let left : map (not_both x) (take (suc k) inputs) ≡ map (not_both x) (take k inputs) ++ not_both x at.0 ∷ [] = ap (map (not_both x)) (take_push inputs k at.0 at.1) ∙ map-append (not_both x) (take k inputs) (at.0 ∷ []) in
       let right = map_next (λ i. two i r (input_meaning called i) (input_meaning called r)) k in
       subst (λ cs. AllZip Reads cs (map (λ i. two i r (input_meaning called i) (input_meaning called r)) (range_with_len 0 (suc k)))) (sym left)
       (subst (λ ws. AllZip Reads (map (not_both x) (take k inputs) ++ not_both x at.0 ∷ []) ws) (sym right)

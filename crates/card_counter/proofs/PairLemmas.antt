@@ -5,12 +5,12 @@ use Rattle.std.proofs.lemmas.List.{length-map, length-take-le, take-append-drop}
 use Rattle.std.proofs.lemmas.Option.{slice_get-get_or}
 use Rattle.std.specs.Bool.{beq}
 use Rattle.std.specs.List.{AllByRecursion}
-use Rattle.des_base.proofs.Elements.{all_append, all_split, all_change, some_at}
+use Rattle.des_base.proofs.Elements.{all_append, all_split, all_change, some_at, take_push}
 use Rattle.des_base.specs.Lists.{EachPair}
 use Rattle.prop_core.proofs.Premises.{opposite}
 use Rattle.prop_core.specs.declared.lit.Lit.{Lit}
 use Rattle.prop_core.specs.Clauses.{Clause, negation, literal_true, clause_true, AllClausesTrue}
-use Rattle.card_counter.proofs.ListLemmas.{all_both, take_more}
+use Rattle.card_counter.proofs.ListLemmas.{all_both}
 use Rattle.card_counter.specs.AtMostOne.{AreNotBothTrue, not_both, pairs_after, excluded_pairs, PairsExclude}
 
 -- ---- the pairs of a longer list
@@ -26,7 +26,7 @@ pub pairs_more : (xs : List Lit) (x : Lit) → excluded_pairs (xs ++ x ∷ []) �
 pairs_more xs x = pairs_append [] xs (x ∷ []) ∙ ap (λ ys. excluded_pairs xs ++ ys) (append-nil (map (not_both x) xs))
 
 pub pairs_take : (inputs : List Lit) (k : ℕ) (x : Lit) → slice_get inputs k ≡ Some x → excluded_pairs (take (suc k) inputs) ≡ excluded_pairs (take k inputs) ++ map (not_both x) (take k inputs)
-pairs_take inputs k x h = ap excluded_pairs (take_more inputs k x h) ∙ pairs_more (take k inputs) x
+pairs_take inputs k x h = ap excluded_pairs (take_push inputs k x h) ∙ pairs_more (take k inputs) x
 
 pub pairs_next : (inputs : List Lit) (k : ℕ) (d : Lit) → k < length inputs → excluded_pairs (take (k + 1) inputs) ≡ excluded_pairs (take k inputs) ++ map (not_both (get_or inputs k d)) (take k inputs)
 pairs_next inputs k d h =
@@ -40,11 +40,6 @@ negation_from true true h = absurd (h refl)
 negation_from true false h = refl
 negation_from false true h = refl
 negation_from false false h = absurd (h refl)
-
-two_true : (a b : Bool) → a || (b || false) ≡ true → (a ≡ false → b ≡ true)
-two_true true b h e = cc
-two_true false true h e = refl
-two_true false false h e = cc
 
 module _ (value : ℕ → Bool) where
   excludes : (x y : Lit) → IsTrue (clause_true value (not_both x y)) → AreNotBothTrue value y x

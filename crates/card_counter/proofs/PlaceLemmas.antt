@@ -1,47 +1,17 @@
--- What a column says of an input, case by case, and how it is written one after another.
-use Rattle.std.proofs.Common.{◌≡◌, ℕ, zero, suc, ◌+◌, ◌-◌, ◌*◌, ◌<◌, ◌≤◌, ◌∙◌, List, [], ◌∷◌, ◌++◌, flat_map, length, refl, sym, ap, subst, arith, append_assoc, append-nil, length-append}
+-- What a column says of an input, written one clause after another.
+use Rattle.std.proofs.Common.{◌≡◌, ℕ, suc, ◌+◌, ◌-◌, ◌*◌, ◌<◌, ◌≤◌, ◌∙◌, List, [], ◌∷◌, ◌++◌, flat_map, length, sym, ap, subst, arith, append_assoc, append-nil, length-append}
 use Rattle.std.specs.List.{range_with_len}
 use Rattle.std.proofs.Math.Seq.{get_or-append_seam}
 use Rattle.prop_core.specs.declared.lit.Lit.{Lit}
 use Rattle.prop_core.specs.ClauseStore.{ClauseStore}
-use Rattle.prop_core.specs.Clauses.{Clause, negation}
+use Rattle.prop_core.specs.Clauses.{Clause}
 use Rattle.card_counter.proofs.Inputs.{longer_size}
 use Rattle.card_counter.proofs.ListLemmas.{flat_next}
 use Rattle.card_counter.proofs.States.{at_end, before_front, one_more_column}
-use Rattle.card_counter.specs.CounterState.{CounterState, positive, negative, variable, column_at, column_before, column_clauses, place_clauses, input_at, kept_at, counted_at, clauses_of_column, clauses_of_input, with_column, next_clauses, longer, with_input, input_clauses}
+use Rattle.card_counter.specs.CounterState.{CounterState, column_at, column_before, column_clauses, place_clauses, input_at, clauses_of_column, clauses_of_input, with_column, next_clauses, longer, with_input, input_clauses}
 use Rattle.card_counter.specs.Growing.{HasRoom, AddsWithin}
 use Rattle.des_base.specs.Lists.{numbers_below}
 use Rattle.prop_core.specs.Trail.{no_literal}
-
--- ---- case by case
-
-pub kept_first : (state : CounterState) (j i : ℕ) → i ≤ 0 → kept_at state j i ≡ []
-kept_first state j zero h = refl
-kept_first state j (suc i) h = absurd (omega arith)
-
-pub kept_later : (state : CounterState) (j i : ℕ) → 0 < i → kept_at state j i ≡ (negative (variable state (i - 1) j) ∷ positive (variable state i j) ∷ []) ∷ []
-kept_later state j zero h = absurd (omega arith)
-kept_later state j (suc i) h = let same : i ≡ suc i - 1 = omega arith in ap (λ k. (negative (variable state k j) ∷ positive (variable state (suc i) j) ∷ []) ∷ []) same
-
-pub counted_free : (state : CounterState) (j i : ℕ) → j ≡ 0 → counted_at state j i ≡ (negation (input_at state.inputs i) ∷ positive (variable state i j) ∷ []) ∷ []
-counted_free state zero i h = refl
-counted_free state (suc j) i h = absurd (omega arith)
-
-pub counted_first : (state : CounterState) (j i : ℕ) → 0 < j → i ≤ 0 → counted_at state j i ≡ []
-counted_first state zero i some h = absurd (omega arith)
-counted_first state (suc j) zero some h = refl
-counted_first state (suc j) (suc i) some h = absurd (omega arith)
-
-pub counted_later : (state : CounterState) (j i : ℕ) → 0 < j → 0 < i → counted_at state j i ≡ (negative (variable state (i - 1) (j - 1)) ∷ negation (input_at state.inputs i) ∷ positive (variable state i j) ∷ []) ∷ []
-counted_later state zero i some h = absurd (omega arith)
-counted_later state (suc j) zero some h = absurd (omega arith)
-counted_later state (suc j) (suc i) some h =
-    let input : i ≡ suc i - 1 = omega arith in
-    let column : j ≡ suc j - 1 = omega arith in
-    ap (λ k. (negative (variable state k j) ∷ negation (input_at state.inputs (suc i)) ∷ positive (variable state (suc i) (suc j)) ∷ []) ∷ []) input
-    ∙ ap (λ k. (negative (variable state (suc i - 1) k) ∷ negation (input_at state.inputs (suc i)) ∷ positive (variable state (suc i) (suc j)) ∷ []) ∷ []) column
-
--- ---- written one after another
 
 pub adds_none : (store : ClauseStore) (more : List Clause) (m n : ℕ) → more ≡ [] → AddsWithin store more m n store
 adds_none store more m n none = record { added = sym (append-nil store.clauses) ∙ ap (λ xs. store.clauses ++ xs) (sym none); clauses = omega arith; literals = omega arith }
@@ -78,12 +48,6 @@ pub room_left : (old mid : ClauseStore) (so_far : List Clause) (place count : �
 room_left old mid so_far place count room added less = record {
   clauses = let a = room.clauses in let b = added.clauses in omega (arith, a, b, less);
   literals = let a = room.literals in let b = added.literals in omega (arith, a, b, less);
-}
-
-pub room_after : (old mid : ClauseStore) (so_far : List Clause) (m n o p q r : ℕ) → HasRoom old m n → AddsWithin old so_far o p mid → q + o ≤ m → r + p ≤ n → HasRoom mid q r
-room_after old mid so_far m n o p q r room added clauses literals = record {
-  clauses = let a = room.clauses in let b = added.clauses in omega (arith, a, b, clauses);
-  literals = let a = room.literals in let b = added.literals in omega (arith, a, b, literals);
 }
 
 -- ---- the last column, and the last input

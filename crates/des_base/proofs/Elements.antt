@@ -1,6 +1,6 @@
 -- What a list has: elements by their places, what holds of each, lists that are made of others, and what a test finds.
-use Rattle.std.proofs.Common.{◌≡◌, ℕ, zero, suc, ◌<◌, Bool, true, false, ◌||◌, ◌∙◌, List, [], ◌∷◌, ◌++◌, length, take, map, flat_map, filter, filter_map, cond, Option, Some, None, inl, inr, ◌⊎◌, refl, sym, ap, subst, arith, Contains, slice_get}
-use Rattle.std.specs.List.{AllByRecursion, AllZip, list_all, list_any}
+use Rattle.std.proofs.Common.{◌≡◌, ℕ, zero, suc, ◌+◌, ◌<◌, Bool, true, false, ◌||◌, ◌∙◌, List, [], ◌∷◌, ◌++◌, length, take, map, flat_map, filter, filter_map, cond, Option, Some, None, inl, inr, ◌⊎◌, refl, sym, ap, subst, arith, Contains, slice_get}
+use Rattle.std.specs.List.{AllByRecursion, AllZip, list_all, list_any, cons_option}
 use Rattle.std.proofs.lemmas.List.Elements.{Contains-append_left, Contains-append_right, Contains-append_cases}
 use Rattle.des_base.proofs.BoolLemmas.{both, join, either, or_left, or_right, clash}
 use Rattle.des_base.specs.Lists.{EachPair}
@@ -153,16 +153,19 @@ pairs_filter R p (y ∷ xs) each = by (p y) (pairs_filter R p xs each.1)
     by true rest = (all_from (R y) (filter p xs) (λ x in'. all_at (R y) xs x each.0 (filter_from p xs x in').1), rest)
     by false rest = rest
 
--- an element before the rest, where there is one
-abbrev with_first : {X : Type 0} → Option X → List X → List X
-with_first None xs = xs
-with_first (Some x) xs = x ∷ xs
+-- each element with each later one, of two lists together
+pub pairs_append : {X : Type 0} (R : X → X → Type 0) (xs ys : List X) → EachPair R xs → EachPair R ys → ((x y : X) → Contains xs x → Contains ys y → R x y) → EachPair R (xs ++ ys)
+pairs_append R [] ys first second across = second
+pairs_append R (x ∷ xs) ys first second across = (
+  all_append (R x) xs ys first.0 (all_from (R x) ys (λ y here. across x y (0, omega arith, refl) here)),
+  pairs_append R xs ys first.1 second (λ z y here there. across z y (suc here.0, omega (arith, here.1), here.2) there),
+)
 
 pub mapped_has : {X Y : Type 0} (f : X → Option Y) (xs : List X) (x : X) (y : Y) → Contains xs x → f x ≡ Some y → Contains (filter_map f xs) y
 mapped_has f [] x y in' is = absurd (none_in_nil x in')
 mapped_has f (z ∷ xs) x y in' is = by (f z) refl (cons_cases z xs x in') (mapped_has f xs x y)
   where
-    by : (o : Option _) → f z ≡ o → (z ≡ x) ⊎ Contains xs x → (Contains xs x → f x ≡ Some y → Contains (filter_map f xs) y) → Contains (with_first o (filter_map f xs)) y
+    by : (o : Option _) → f z ≡ o → (z ≡ x) ⊎ Contains xs x → (Contains xs x → f x ≡ Some y → Contains (filter_map f xs) y) → Contains (cons_option o (filter_map f xs)) y
     by None e (inl same) later = let none : None ≡ Some y = sym e ∙ ap f same ∙ is in cc
     by None e (inr rest) later = later rest is
     by (Some w) e (inl same) later = let here : Some w ≡ Some y = sym e ∙ ap f same ∙ is in here_first w (filter_map f xs) y cc
@@ -172,7 +175,7 @@ pub mapped_from : {X Y : Type 0} (f : X → Option Y) (xs : List X) (y : Y) → 
 mapped_from f [] y in' = absurd (none_in_nil y in')
 mapped_from f (z ∷ xs) y in' = by (f z) refl in' (mapped_from f xs y)
   where
-    by : (o : Option _) → f z ≡ o → Contains (with_first o (filter_map f xs)) y → (Contains (filter_map f xs) y → (x : _) × Contains xs x × (f x ≡ Some y)) → (x : _) × Contains (z ∷ xs) x × (f x ≡ Some y)
+    by : (o : Option _) → f z ≡ o → Contains (cons_option o (filter_map f xs)) y → (Contains (filter_map f xs) y → (x : _) × Contains xs x × (f x ≡ Some y)) → (x : _) × Contains (z ∷ xs) x × (f x ≡ Some y)
     by None e here later = let found = later here in (found.0, here_later z xs found.0 found.1, found.2)
     by (Some w) e here later = at (cons_cases w (filter_map f xs) y here)
       where
@@ -185,6 +188,9 @@ pub take_push : {X : Type 0} (xs : List X) (k : ℕ) (x : X) → slice_get xs k 
 take_push [] k x h = cc
 take_push (y ∷ xs) zero x h = let same : y ≡ x = cc in ap (λ z. z ∷ []) same
 take_push (y ∷ xs) (suc k) x h = ap (λ rest. y ∷ rest) (take_push xs k x h)
+
+pub take_at : {X : Type 0} (xs : List X) (k : ℕ) (x : X) → slice_get xs k ≡ Some x → take (k + 1) xs ≡ take k xs ++ x ∷ []
+take_at xs k x h = let on : k + 1 ≡ suc k = omega arith in ap (λ n. take n xs) on ∙ take_push xs k x h
 
 -- ---- what a test finds
 

@@ -11,3 +11,5 @@ pub mod NumbersBelow
 pub mod PrintedLines
 pub mod Appended
 pub mod PlaceLemmas
+pub mod Powers
+pub mod Results

@@ -5,9 +5,6 @@ use Rattle.std.specs.Prelude.{nat_le, option_and_then}
 use Rattle.std.specs.Char.{is_ascii_digit}
 use Rattle.des_base.specs.Numbers.{digits_value, up_to}
 
-up_to-more : (most n : ℕ) → most < n → up_to most (Some n) ≡ None
-up_to-more most n h = grind (arith, nat_tests)
-
 above_step : (b : Bool) (most : ℕ) (o : Option ℕ) → up_to most o ≡ None → up_to most (cond b o None) ≡ None
 above_step true most o h = h
 above_step false most o h = refl

@@ -1,5 +1,5 @@
 -- The numbers below a bound, one number further.
-use Rattle.std.proofs.Common.{◌≡◌, ◌≢◌, ◌∙◌, ℕ, zero, suc, ◌+◌, ◌<◌, Bool, true, false, List, [], ◌∷◌, ◌++◌, map, filter, flat_map, refl, ap, subst, arith, append-nil}
+use Rattle.std.proofs.Common.{◌≡◌, ◌≢◌, ◌∙◌, ℕ, zero, suc, ◌+◌, ◌<◌, Bool, true, false, List, [], ◌∷◌, ◌++◌, map, filter, flat_map, refl, ap, subst, arith, append-nil, Some, slice_get}
 use Rattle.std.specs.Prelude.{sum_by}
 use Rattle.std.specs.List.{AllByRecursion, range_with_len}
 use Rattle.std.proofs.lemmas.List.{map-append}
@@ -33,6 +33,12 @@ filter_push p (y ∷ xs) x = by (p y) refl (filter_push p xs x)
     by : (b : Bool) → p y ≡ b → filter p (xs ++ x ∷ []) ≡ filter p xs ++ filter p (x ∷ []) → filter p ((y ∷ xs) ++ x ∷ []) ≡ filter p (y ∷ xs) ++ filter p (x ∷ [])
     by true e rest = rw e (ap (λ ys. y ∷ ys) rest)
     by false e rest = rw e rest
+
+-- what stands at a place of what is made of numbers in a row
+pub range_there : {X : Type 0} (f : ℕ → X) (a n k : ℕ) → k < n → slice_get (map f (range_with_len a n)) k ≡ Some (f (a + k))
+range_there f a zero k h = absurd (omega arith)
+range_there f a (suc n) zero h = let same : a ≡ a + 0 = omega arith in ap (λ b. Some (f b)) same
+range_there f a (suc n) (suc k) h = let same : a + 1 + k ≡ a + suc k = omega arith in range_there f (a + 1) n k (omega arith) ∙ ap (λ b. Some (f b)) same
 
 -- the next number passes the test, or doesn't
 pub filter_numbers_yes : (p : ℕ → Bool) (n : ℕ) → p n ≡ true → filter p (numbers_below (n + 1)) ≡ filter p (numbers_below n) ++ n ∷ []

@@ -60,10 +60,6 @@ module _ {Z : Type 0} where
   abbrev same : Vec ℕ Z → Vec ℕ Z → Bool
   same x y = bytes_eq x.items y.items
 
-  -- nothing is found where nothing is
-  pub places_none : HasPlaces {Z = Z} [] []
-  places_none = record { found = λ text. refl }
-
   -- so it is behind one name more, of which the key has the bytes
   pub places_push : (old new : List (Vec ℕ Z × ℕ)) (key : Vec ℕ Z) (place : ℕ) (names : List (List ℕ)) (n : List ℕ)
       → HasPlaces old names → lookup (same key) new ≡ Some place → KeepsOthers same (same key) old new → key.items ≡ n → place ≡ length names → place_of n names ≡ None → HasPlaces new (names ++ n ∷ [])

@@ -6,6 +6,7 @@ use Rattle.std.specs.Option.{option_map_or}
 use Rattle.std.proofs.lemmas.List.Elements.{All-push, All-weaker, All-nil, All-head, All-tail}
 use Rattle.std.proofs.lemmas.Bool.Decides.{nat_tests}
 use Rattle.std.proofs.lemmas.List.Folds.{list_any-append}
+use Rattle.std.proofs.Math.Bool.{or-false}
 use Rattle.des_base.proofs.PlaceLemmas.{place-within}
 use Rattle.des_base.specs.Names.{place_of, AreNames, IsName}
 use Rattle.des_base.proofs.TableLemmas.{AreNames-push}
@@ -108,22 +109,14 @@ pub found_any : (q : Trans) (keys : List Trans) → list_any (trans.ghosts.eq q)
 found_any q [] = refl
 found_any q (t ∷ ts) = λ i. found_one q t i || found_any q ts i
 
--- none where none are
-pub HaveSameTransitions-none : HaveSameTransitions [] []
-HaveSameTransitions-none = record { found = λ from action to. refl }
-
 -- the same after room was made
 pub HaveSameTransitions-again : (old new items more : List Trans) → HaveSameTransitions new old → HaveSameTransitions old items → more ≡ items → HaveSameTransitions new more
 HaveSameTransitions-again old new items more same known is = record { found = λ from action to. same.found from action to ∙ known.found from action to ∙ ap (list_any (is_trans from action to)) (sym is) }
-
-or_none : (b : Bool) → (b || false) ≡ b
-or_none true = refl
-or_none false = refl
 
 -- and one more, which stands last
 pub HaveSameTransitions-push : (old new items more : List Trans) (trans : Trans) → HaveSameTransitions old items → HasOneMore trans old new → more ≡ items ++ trans ∷ [] → HaveSameTransitions new more
 HaveSameTransitions-push old new items more trans known one is = record {
   found = λ from action to.
       one.found from action to ∙ ap (λ b. b || is_trans from action to trans) (known.found from action to)
-      ∙ sym (ap (list_any (is_trans from action to)) is ∙ list_any-append (is_trans from action to) items (trans ∷ []) ∙ ap (λ b. list_any (is_trans from action to) items || b) (or_none (is_trans from action to trans)));
+      ∙ sym (ap (list_any (is_trans from action to)) is ∙ list_any-append (is_trans from action to) items (trans ∷ []) ∙ ap (λ b. list_any (is_trans from action to) items || b) (or-false (is_trans from action to trans)));
 }

@@ -1,6 +1,6 @@
 -- A network stays one under each addition.
 use Rattle.std.proofs.Common.{◌≡◌, ◌<◌, ◌≤◌, ◌+◌, ℕ, zero, suc, Bool, true, false, cond, List, [], ◌∷◌, ◌++◌, length, Option, None, Some, refl, arith, ap, sym, ◌∙◌, subst, length-append, add-zero, get_or, Result, Ok, Err}
-use Rattle.std.specs.Prelude.{IsErr, OnErr, OnOk, is_some, nat_le, nat_lt, slice_get, slice_set, sum_by, ◌&&◌, ◌||◌}
+use Rattle.std.specs.Prelude.{IsErr, OnOk, is_some, nat_le, nat_lt, slice_get, slice_set, sum_by, ◌&&◌, ◌||◌}
 use Rattle.std.specs.List.{list_all}
 use Rattle.std.specs.Option.{option_map_or}
 use Rattle.std.proofs.lemmas.List.Elements.{All-push, All-weaker, All-nil, All-set}
@@ -10,6 +10,8 @@ use Rattle.std.proofs.lemmas.Option.{slice_get_past, slice_get_read}
 use Rattle.std.proofs.lemmas.Grind.{common_steps}
 use Rattle.des_base.specs.Names.{place_of, IsName}
 use Rattle.des_base.proofs.TableLemmas.{AreNames-push}
+use Rattle.des_base.proofs.BoolLemmas.{most_not, less_not, less_is}
+pub use Rattle.des_base.proofs.Results.{on_err}
 use Rattle.des_net.specs.declared.parts.Part.{Part}
 use Rattle.des_net.specs.Limits.{most_components, most_states, most_transitions, most_events, most_parts}
 use Rattle.des_net.specs.Network.{Component, Event, Net, no_net, no_component}
@@ -144,6 +146,10 @@ IsDraft-with_component net name h n none few = record {
   events = events_kept net.components _ net.events (Keeps-push net.components no_component) h.events;
 }
 
+pub trans_count-none : trans_count [] ≡ 0
+unfolding trans_count
+trans_count-none = refl
+
 pub trans_count-push : (components : List Component) → trans_count (components ++ no_component ∷ []) ≡ trans_count components
 unfolding trans_count
 trans_count-push components = sum_by_push (λ (d : Component). length d.transitions) components no_component ∙ add-zero (sizes components)
@@ -202,13 +208,6 @@ pub change_at-at : (i : ℕ) (change : Component → Component) (components : Li
 unfolding change_at
 change_at-at i change components c at = ap (λ o. option_map_or (λ d. slice_set components i (change d)) o components) at
 
--- the tests of a refusal
-below_of : (m n : ℕ) → nat_lt m n ≡ true → m < n
-below_of m n e = grind (arith, nat_tests)
-
-less_of : (m n : ℕ) → nat_le m n ≡ false → n < m
-less_of m n e = grind (arith, nat_tests)
-
 pub at_least : (m n k : ℕ) → k ≡ n → m ≤ k → nat_le m n ≡ true
 at_least m n k e h = grind (arith, nat_tests)
 
@@ -239,10 +238,6 @@ set_same [] i c y e h = refl
 set_same (x ∷ xs) zero c y e h = ap (λ z. z ∷ xs) (e ∙ h)
 set_same (x ∷ xs) (suc i) c y e h = ap (λ zs. x ∷ zs) (set_same xs i c y e h)
 
-pub on_err : {X E : Type 0} (r : Result X E) (P : Type 0) → P → OnErr r P
-on_err (Ok x) P p = tt
-on_err (Err e) P p = p
-
 pub on_ok : {X E : Type 0} (r : Result X E) (P : Type 0) → IsErr r → OnOk r P
 on_ok (Ok x) P e = cc
 on_ok (Err e) P f = tt
@@ -267,7 +262,7 @@ pub record MayAddState (c : Component) (name : List ℕ) : Type 0 where
   pub room : length c.state_names < most_states
 
 may_add_state : (c : Component) (name : List ℕ) (o : Option ℕ) (limit : Bool) → place_of name c.state_names ≡ o → nat_le most_states (length c.state_names) ≡ limit → state_tests (is_some o) limit ≡ None → MayAddState c name
-may_add_state c name None false e f h = record { new = e; room = less_of _ _ f }
+may_add_state c name None false e f h = record { new = e; room = most_not _ _ f }
 may_add_state c name None true e f h = cc
 may_add_state c name (Some i) limit e f h = cc
 
@@ -308,7 +303,7 @@ pub record MayAddTrans (components : List Component) (c : Component) (from : ℕ
 may_add_trans : (components : List Component) (c : Component) (from : ℕ) (action : List ℕ) (to : ℕ) (double leaves enters limit : Bool)
     → has_trans c from action to ≡ double → nat_lt from (length c.state_names) ≡ leaves → nat_lt to (length c.state_names) ≡ enters → nat_le most_transitions (trans_count components) ≡ limit
     → trans_tests double leaves enters limit ≡ None → MayAddTrans components c from action to
-may_add_trans components c from action to false true true false d f t l h = record { new = d; leaves = below_of _ _ f; enters = below_of _ _ t; room = less_of _ _ l }
+may_add_trans components c from action to false true true false d f t l h = record { new = d; leaves = less_is _ _ f; enters = less_is _ _ t; room = most_not _ _ l }
 may_add_trans components c from action to false true true true d f t l h = cc
 may_add_trans components c from action to false true false limit d f t l h = cc
 may_add_trans components c from action to false false enters limit d f t l h = cc
@@ -339,13 +334,10 @@ pub record MayAddEvent (net : Net) (name : List ℕ) (parts : List Part) : Type 
   pub room : length net.events < most_events
   pub few : length parts ≤ most_parts
 
-no_more : (m n : ℕ) → nat_lt m n ≡ false → n ≤ m
-no_more m n e = grind (arith, nat_tests)
-
 may_add_event : (net : Net) (name : List ℕ) (parts : List Part) (o : Option ℕ) (repeated known full wide : Bool)
     → place_of name net.event_names ≡ o → repeats parts ≡ repeated → list_all (is_known net.components) parts ≡ known → nat_le most_events (length net.events) ≡ full → nat_lt most_parts (length parts) ≡ wide
     → event_tests (is_some o) repeated known full wide ≡ None → MayAddEvent net name parts
-may_add_event net name parts None false true false false n r k f w h = record { new = n; once = r; known = k; room = less_of _ _ f; few = no_more _ _ w }
+may_add_event net name parts None false true false false n r k f w h = record { new = n; once = r; known = k; room = most_not _ _ f; few = less_not _ _ w }
 may_add_event net name parts None false true false true n r k f w h = cc
 may_add_event net name parts None false true true wide n r k f w h = cc
 may_add_event net name parts None false false full wide n r k f w h = cc

@@ -4,12 +4,12 @@ use Rattle.std.specs.List.{AllByRecursion}
 use Rattle.std.proofs.lemmas.List.{length-map}
 use Rattle.std.proofs.lemmas.List.FromFn.{length-range_with_len}
 use Rattle.std.proofs.lemmas.Option.{slice_get-map}
-use Rattle.des_base.proofs.Elements.{all_from, flat_from, map_from}
+use Rattle.des_base.proofs.Elements.{all_from, flat_from, map_from, pairs_append}
 use Rattle.des_base.specs.Lists.{numbers_below}
 use Rattle.des_net.specs.Network.{Net}
 use Rattle.log_clauses.proofs.Codes.{has_name, named_entry, code_begins, code_grows}
 use Rattle.log_clauses.proofs.Drafts.{drafts_are_code}
-use Rattle.log_clauses.proofs.Lists.{all_at, pairs_append}
+use Rattle.log_clauses.proofs.Lists.{all_at}
 use Rattle.log_clauses.proofs.Numbered.{laid_out_from, laid_out_has, flat_get, number_get, meanings_begin, log_meanings_grow}
 use Rattle.log_clauses.specs.Additions.{with_addition}
 use Rattle.log_clauses.specs.BesideEvents.{with_events, IsAfterEvents, MeaningsJoinEvents, LogCodeBegins, LogCodeGrows, LogCodesAre}

@@ -2,7 +2,7 @@
 use Rattle.std.proofs.Common.{◌≡◌, ◌≢◌, ℕ, zero, suc, ◌<◌, Bool, true, false, List, [], ◌∷◌, ◌++◌, ◌∙◌, length, refl, sym, ap, subst, arith, Contains, map, flat_map, is_some, inl, inr, ◌⊎◌, ◌&&◌, ◌==◌, get_or}
 use Rattle.std.specs.Prelude.{⊤}
 use Rattle.std.specs.List.{AllZip}
-use Rattle.std.proofs.lemmas.Bool.{eqb-true, eq-eqb}
+use Rattle.std.proofs.lemmas.Bool.{eqb-true, eq-eqb, or_right}
 use Rattle.std.proofs.lemmas.List.Elements.{filter-append, Contains-append_left, Contains-append_right}
 use Rattle.des_base.proofs.BoolLemmas.{either, or_left, both, join}
 use Rattle.des_base.proofs.Elements.{cons_cases, here_first, here_later, none_in_nil}
@@ -14,7 +14,6 @@ use Rattle.log_clauses.proofs.Lists.{all_at}
 use Rattle.log_clauses.specs.Coded.{is_paired}
 use Rattle.log_order.specs.Log.{Log}
 use Rattle.replay.specs.Explanation.{Entry, alarms_of, real_alarms, observables, Shows}
-use Rattle.run_clauses.proofs.StepLemmas.{or_right}
 
 -- the order doesn't begin with a false alarm
 abbrev StartsTrue : List Entry → Type 0

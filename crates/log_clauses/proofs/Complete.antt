@@ -1,17 +1,17 @@
 -- A linearisation has a value for the names of its log.
 use Rattle.std.proofs.Common.{◌≡◌, ◌≢◌, ℕ, zero, suc, ◌+◌, ◌<◌, Bool, true, false, List, [], ◌∷◌, ◌++◌, ◌∙◌, length, refl, sym, ap, subst, arith, Contains, map, flat_map, filter, is_some, not, inl, inr, ◌⊎◌, ◌||◌, ◌&&◌, ◌==◌, take, drop, get_or, slice_get, Some, IsTrue, take_all}
 use Rattle.std.specs.List.{AllByRecursion, AllZip, list_any}
-use Rattle.std.proofs.lemmas.Bool.{eqb-true, eq-eqb}
+use Rattle.std.proofs.lemmas.Bool.{eqb-true, eq-eqb, or_right}
 use Rattle.std.proofs.lemmas.List.{length-map}
 use Rattle.card_counter.proofs.Exclusions.{chains_hold}
 use Rattle.card_counter.specs.Exclusions.{AtMostOneOf}
-use Rattle.des_base.proofs.BoolLemmas.{otherwise, or_left, both, join}
-use Rattle.des_base.proofs.Elements.{pair_at, none_in_nil, all_from}
+use Rattle.des_base.proofs.BoolLemmas.{otherwise, or_left, both, join, clash}
+use Rattle.des_base.proofs.Elements.{pair_at, none_in_nil, all_from, filter_has, filter_from, pairs_filter, any_has, has_any}
 use Rattle.des_base.proofs.NumbersBelow.{range_once}
 use Rattle.des_base.specs.Lists.{EachPair, numbers_below}
 use Rattle.des_net.specs.Network.{Net, label_of}
 use Rattle.des_net.specs.Width.{joined}
-use Rattle.log_clauses.proofs.Lists.{clash, filter_has, filter_from, all_at, pairs_filter}
+use Rattle.log_clauses.proofs.Lists.{all_at}
 use Rattle.log_clauses.proofs.Pieces.{IsStepSet, AreFrom, piece_is, pieces_are_steps}
 use Rattle.log_clauses.proofs.Rules.{or_false_is, shown_matches, shown_event, in_chain, has_event}
 use Rattle.log_clauses.proofs.Entries.{real_in, real_once, entry_in, real_has, real_from, one_entry, dropped_has, dropped_from, has_false}
@@ -25,8 +25,8 @@ use Rattle.prop_core.proofs.Premises.{implies, two_negations}
 use Rattle.prop_core.specs.NamedClauses.{named_true, named_clause_true}
 use Rattle.prop_core.specs.VariableNames.{Meaning, yes, in_state, happens, asked, matches, done, unmatched, closed, dropped, reaches, some_of_first, of_states, of_events, of_matches, remaining}
 use Rattle.replay.specs.Explanation.{Entry, alarms_of, real_alarms, may_stand, observables, Shows, Linearises, is_matching}
-use Rattle.run_clauses.proofs.StepLemmas.{found, among, mapped, or_right}
-use Rattle.log_clauses.proofs.Fronts.{any_has, has_any, take_has, take_grows, take_last, take_not, apart_append, once_left, block_once, next_front, front_and_rest, place_inside, inside_place}
+use Rattle.run_clauses.proofs.StepLemmas.{found, among, mapped}
+use Rattle.log_clauses.proofs.Fronts.{take_has, take_grows, take_last, take_not, apart_append, once_left, block_once, next_front, front_and_rest, place_inside, inside_place}
 use Rattle.log_clauses.proofs.Blocks.{cut_order, blocks_length, block_at, block_alarms, joined_alarms, block_has, paired, partner, partner_back, paired_in, same_alarm, same_event}
 use Rattle.std.proofs.lemmas.List.Elements.{Contains-append_cases, Contains-append_left, Contains-append_right}
 

@@ -4,14 +4,15 @@ use Rattle.std.specs.List.{AllByRecursion}
 use Rattle.std.proofs.lemmas.List.{length-map}
 use Rattle.std.proofs.lemmas.List.Sums.{length-filter, sum_by-append, sum_by-cons}
 use Rattle.std.proofs.lemmas.List.FromFn.{length-range_with_len}
-use Rattle.std.proofs.Math.Nat.{mul-le-mul_left, pow-succ', pow-zero}
+use Rattle.std.proofs.Math.Nat.{mul-le-mul_left}
 use Rattle.card_counter.proofs.Listed.{exclusions_are_listed}
 use Rattle.card_counter.specs.Exclusions.{IsExclusionClause, exclusion_list}
-use Rattle.des_base.proofs.Elements.{cons_cases, here_first, here_later, none_in_nil, flat_has, flat_from, map_has, map_from}
+use Rattle.des_base.proofs.Elements.{cons_cases, here_first, here_later, none_in_nil, flat_has, flat_from, map_has, map_from, filter_has, filter_from}
+use Rattle.des_base.proofs.Powers.{square}
 use Rattle.des_base.specs.Lists.{numbers_below}
 use Rattle.des_net.specs.Network.{Net, label_of, observable_events}
 use Rattle.des_net.specs.QuestionSize.{touching_count, fault_event_count, component_state_count}
-use Rattle.log_clauses.proofs.Lists.{all_at, filter_has, filter_from}
+use Rattle.log_clauses.proofs.Lists.{all_at}
 use Rattle.log_clauses.proofs.Rules.{has_event, event_matches, shown_event}
 use Rattle.log_clauses.proofs.Stay.{with_alarm, with_pair, range_more, matching_same, doubtful_same, doubtful_new}
 use Rattle.log_clauses.specs.Additions.{Addition, alarm_added, pair_added, with_addition, IsTaken, IsAlarmClause, IsAddedClause, IsFirstClause}
@@ -228,13 +229,13 @@ match_few i t events =
     let same = length-map events (λ e. matches i e (suc t)) in
     omega (arith, few, size, same)
 
-square : (m : ℕ) → m ≤ m * m
-square zero = omega arith
-square (suc m) = omega arith
+at_most_square : (m : ℕ) → m ≤ m * m
+at_most_square zero = omega arith
+at_most_square (suc m) = omega arith
 
 few_clauses : (n m r : ℕ) → r ≤ m * n → m * (n * 7) + (2 + n * (2 + 3 * m)) + r ≤ 12 * (n * (m * m + 1)) + 12
 few_clauses n m r real =
-    let more = square m in
+    let more = at_most_square m in
     let each : 8 * m + (2 + 3 * m) ≤ 12 * (m * m + 1) = omega (arith, more) in
     let all = mul-le-mul_left n each in
     omega (arith, all, real)
@@ -261,12 +262,6 @@ sum_more g h a same =
     let at = ap g zero_add in
     let front = sum_agree g h (numbers_below a) (λ x in'. same x (from_numbers a x in')) in
     omega (arith, split, parts, last, at, front)
-
-square_is : (m : ℕ) → m ^ 2 ≡ m * m
-square_is m = pow-succ' m 1 ∙ ap (λ k. m * k) (pow-succ' m 0 ∙ one m)
-  where
-    one : (k : ℕ) → k * k ^ 0 ≡ k
-    one k = let e = pow-zero k in rw e (omega arith)
 
 module _ (net : Net) (log : Log) (n : ℕ) (new : Alarm) where
   count : ℕ
@@ -313,7 +308,7 @@ module _ (net : Net) (log : Log) (n : ℕ) (new : Alarm) where
       let real = real_size new.doubtful in
       let whole = length-append (alarm_clauses net log n new) (real_clauses new.doubtful (length log.alarms) (taken_events net log new) n) in
       let bound = few_clauses n (length (taken_events net log new)) (length (real_clauses new.doubtful (length log.alarms) (taken_events net log new) n)) real in
-      let squares = square_is (length (taken_events net log new)) in
+      let squares = square (length (taken_events net log new)) in
       let same : length (taken_events net log new) * length (taken_events net log new) + 1 ≡ matching_count net (with_alarm log new) (length log.alarms) ^ 2 + 1 =
       ap (λ k. k + 1) (sym squares ∙ ap (λ k. k ^ 2) taken_count) in
       let moved = ap (λ k. 12 * (n * k) + 12) same in

@@ -1,5 +1,5 @@
 -- Orders of alarms, true and false: their alarms, the true ones, and how many are false.
-use Rattle.std.proofs.Common.{◌≡◌, ◌≢◌, ◌↔◌, ℕ, suc, ◌+◌, ◌<◌, ◌≤◌, Bool, true, false, List, [], ◌∷◌, ◌++◌, ◌∙◌, length, refl, sym, ap, subst, arith, Contains, map, filter, not, inl, inr, ◌⊎◌, ◌||◌, ◌&&◌, ◌==◌, cond, count_by}
+use Rattle.std.proofs.Common.{◌≡◌, ◌≢◌, ◌↔◌, ℕ, suc, ◌<◌, ◌≤◌, Bool, true, false, List, [], ◌∷◌, ◌++◌, ◌∙◌, length, refl, sym, ap, subst, arith, Contains, map, filter, not, inl, inr, ◌⊎◌, ◌||◌, ◌&&◌, ◌==◌, cond, count_by}
 use Rattle.std.specs.List.{AllByRecursion}
 use Rattle.std.proofs.lemmas.List.{map-append}
 use Rattle.std.proofs.lemmas.List.Elements.{filter-append}
@@ -7,11 +7,10 @@ use Rattle.std.proofs.lemmas.List.Sums.{length-filter}
 use Rattle.std.proofs.lemmas.Bool.{eqb-true, eq-eqb}
 use Rattle.card_counter.proofs.Counts.{count_cons}
 use Rattle.des_base.proofs.BoolLemmas.{both, join}
-use Rattle.des_base.proofs.Elements.{cons_cases, here_first, here_later, none_in_nil, all_from, map_has, map_from}
+use Rattle.des_base.proofs.Elements.{cons_cases, here_first, here_later, none_in_nil, all_from, map_has, map_from, filter_has, filter_from, pairs_filter, any_has, has_any}
 use Rattle.des_base.proofs.NumbersBelow.{range_once}
 use Rattle.des_base.specs.Lists.{EachPair, numbers_below}
-use Rattle.log_clauses.proofs.Fronts.{any_has, has_any}
-use Rattle.log_clauses.proofs.Lists.{filter_has, filter_from, range_has, range_from, all_at, pairs_filter}
+use Rattle.log_clauses.proofs.Lists.{range_has, range_from, all_at}
 use Rattle.log_clauses.specs.Coded.{is_dropped}
 use Rattle.log_clauses.specs.Decoded.{is_false_alarm, decoded_entry}
 use Rattle.log_clauses.specs.LogLaws.{HasFalse}

@@ -1,32 +1,13 @@
 -- Tests over lists, fronts of a list, and lists in a row.
-use Rattle.std.proofs.Common.{◌≡◌, ◌≢◌, ℕ, zero, suc, ◌+◌, ◌<◌, Bool, true, false, List, [], ◌∷◌, ◌++◌, ◌∙◌, length, Some, refl, sym, ap, arith, Contains, slice_get, inl, inr, ◌⊎◌, ◌||◌, ◌==◌, take, drop, get_or}
-use Rattle.std.specs.List.{list_any}
+use Rattle.std.proofs.Common.{◌≡◌, ◌≢◌, ℕ, zero, suc, ◌<◌, Bool, true, false, List, [], ◌∷◌, ◌++◌, ◌∙◌, length, Some, refl, sym, ap, arith, Contains, slice_get, inl, inr, ◌⊎◌, ◌==◌, take, drop, get_or}
 use Rattle.std.proofs.lemmas.Bool.{eqb-true, eqb-false}
-use Rattle.des_base.proofs.BoolLemmas.{either, or_left}
 use Rattle.des_base.proofs.Elements.{cons_cases, here_first, here_later, none_in_nil, contains_at, all_from}
 use Rattle.des_base.specs.Lists.{EachPair}
 use Rattle.des_net.specs.Width.{joined}
 use Rattle.log_clauses.proofs.Lists.{all_at}
 use Rattle.log_order.specs.Log.{place_in}
-use Rattle.run_clauses.proofs.StepLemmas.{or_right}
 use Rattle.std.proofs.lemmas.List.Elements.{Contains-append_left, Contains-append_right}
-
--- tests over lists
-pub any_has : {X : Type 0} (p : X → Bool) (xs : List X) → list_any p xs ≡ true → (x : X) × Contains xs x × (p x ≡ true)
-any_has p [] h = cc
-any_has p (y ∷ xs) h = by (either (p y) (list_any p xs) h) (any_has p xs)
-  where
-    by : (p y ≡ true) ⊎ (list_any p xs ≡ true) → (list_any p xs ≡ true → (x : _) × Contains xs x × (p x ≡ true)) → (x : _) × Contains (y ∷ xs) x × (p x ≡ true)
-    by (inl e) later = (y, here_first y xs y refl, e)
-    by (inr rest) later = let found' = later rest in (found'.0, here_later y xs found'.0 found'.1, found'.2)
-
-pub has_any : {X : Type 0} (p : X → Bool) (xs : List X) (x : X) → Contains xs x → p x ≡ true → list_any p xs ≡ true
-has_any p [] x in' h = absurd (none_in_nil x in')
-has_any p (y ∷ xs) x in' h = by (cons_cases y xs x in') (λ rest. has_any p xs x rest h)
-  where
-    by : (y ≡ x) ⊎ Contains xs x → (Contains xs x → list_any p xs ≡ true) → p y || list_any p xs ≡ true
-    by (inl is) later = or_left (p y) (list_any p xs) (ap p is ∙ h)
-    by (inr rest) later = or_right (p y) (list_any p xs) (later rest)
+pub use Rattle.des_base.proofs.Elements.{any_has, has_any}
 
 -- fronts of a list
 pub take_has : {X : Type 0} (xs : List X) (j k : ℕ) (x : X) → slice_get xs j ≡ Some x → j < k → Contains (take k xs) x

@@ -1,38 +1,13 @@
 -- Lists of numbers: what they hold, what a filter keeps, and pairs of their elements.
-use Rattle.std.proofs.Common.{◌≡◌, ◌≢◌, ℕ, zero, suc, ◌+◌, ◌<◌, ◌≤◌, Bool, true, false, List, [], ◌∷◌, ◌++◌, ◌∙◌, Some, refl, sym, ap, subst, arith, Contains, filter, find, cond, inl, inr, ◌⊎◌, ◌==◌}
+use Rattle.std.proofs.Common.{◌≡◌, ◌≢◌, ℕ, zero, suc, ◌+◌, ◌<◌, ◌≤◌, Bool, true, false, List, [], ◌∷◌, ◌∙◌, Some, refl, sym, ap, subst, arith, Contains, find, cond, inl, inr, ◌⊎◌, ◌==◌}
 use Rattle.std.specs.List.{AllByRecursion, range_with_len}
 use Rattle.std.proofs.lemmas.Bool.{eqb-true, eqb-false, eq-eqb, cases_lt}
 use Rattle.des_base.proofs.BoolLemmas.{otherwise}
+pub use Rattle.des_base.proofs.BoolLemmas.{clash}
+pub use Rattle.des_base.proofs.Elements.{filter_has, filter_from, pairs_filter, pairs_append}
 use Rattle.des_base.proofs.Elements.{cons_cases, here_first, here_later, none_in_nil, all_from}
 use Rattle.des_base.specs.Lists.{EachPair}
 use Rattle.log_order.specs.Log.{place_in}
-use Rattle.std.proofs.lemmas.List.Elements.{Contains-append_cases}
-
-pub clash : {A : Type 0} (b : Bool) → b ≡ true → b ≡ false → A
-clash true h k = cc
-clash false h k = cc
-
-pub filter_has : {X : Type 0} (p : X → Bool) (xs : List X) (x : X) → p x ≡ true → Contains xs x → Contains (filter p xs) x
-filter_has p [] x h in' = absurd (none_in_nil x in')
-filter_has p (y ∷ xs) x h in' = by (p y) refl (cons_cases y xs x in') (filter_has p xs x h)
-  where
-    by : (b : Bool) → p y ≡ b → (y ≡ x) ⊎ Contains xs x → (Contains xs x → Contains (filter p xs) x) → Contains (cond b (y ∷ filter p xs) (filter p xs)) x
-    by true e (inl is) later = here_first y (filter p xs) x is
-    by true e (inr rest) later = here_later y (filter p xs) x (later rest)
-    by false e (inl is) later = clash (p x) h (ap p (sym is) ∙ e)
-    by false e (inr rest) later = later rest
-
-pub filter_from : {X : Type 0} (p : X → Bool) (xs : List X) (x : X) → Contains (filter p xs) x → (p x ≡ true) × Contains xs x
-filter_from p [] x in' = absurd (none_in_nil x in')
-filter_from p (y ∷ xs) x in' = by (p y) refl in' (filter_from p xs x)
-  where
-    by : (b : Bool) → p y ≡ b → Contains (cond b (y ∷ filter p xs) (filter p xs)) x → (Contains (filter p xs) x → (p x ≡ true) × Contains xs x) → (p x ≡ true) × Contains (y ∷ xs) x
-    by true e here later = at (cons_cases y (filter p xs) x here)
-      where
-        at : (y ≡ x) ⊎ Contains (filter p xs) x → (p x ≡ true) × Contains (y ∷ xs) x
-        at (inl is) = (ap p (sym is) ∙ e, here_first y xs x is)
-        at (inr rest) = let found = later rest in (found.0, here_later y xs x found.1)
-    by false e here later = let found = later here in (found.0, here_later y xs x found.1)
 
 pub range_has : (a m x : ℕ) → a ≤ x → x < a + m → Contains (range_with_len a m) x
 range_has a zero x low high = absurd (omega arith)
@@ -57,24 +32,6 @@ all_at P (y ∷ xs) all x in' = by (cons_cases y xs x in') (all_at P xs all.1 x)
     by : (y ≡ x) ⊎ Contains xs x → (Contains xs x → P x) → P x
     by (inl is) later = subst P is all.0
     by (inr rest) later = later rest
-
-pub pairs_filter : {X : Type 0} (R : X → X → Type 0) (p : X → Bool) (xs : List X) → EachPair R xs → EachPair R (filter p xs)
-pairs_filter R p [] each = tt
-pairs_filter R p (y ∷ xs) each = by (p y) (pairs_filter R p xs each.1)
-  where
-    by : (b : Bool) → EachPair R (filter p xs) → EachPair R (cond b (y ∷ filter p xs) (filter p xs))
-    by true rest = (all_from (R y) (filter p xs) (λ x in'. all_at (R y) xs each.0 x (filter_from p xs x in').1), rest)
-    by false rest = rest
-
-pub pairs_append : {X : Type 0} (R : X → X → Type 0) (xs ys : List X) → EachPair R xs → EachPair R ys →
-    ((x y : X) → Contains xs x → Contains ys y → R x y) → EachPair R (xs ++ ys)
-pairs_append R [] ys each other cross = other
-pairs_append R (x ∷ xs) ys each other cross =
-    (all_from (R x) (xs ++ ys) (λ y in'. by y (Contains-append_cases xs ys y in')), pairs_append R xs ys each.1 other (λ a b in' in2. cross a b (here_later x xs a in') in2))
-  where
-    by : (y : _) → Contains xs y ⊎ Contains ys y → R x y
-    by y (inl a) = all_at (R x) xs each.0 y a
-    by y (inr b) = cross x y (here_first x xs x refl) b
 
 pub found_is : {X : Type 0} (p : X → Bool) (xs : List X) (x : X) → find p xs ≡ Some x → (p x ≡ true) × Contains xs x
 found_is p [] x h = cc

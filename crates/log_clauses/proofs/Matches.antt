@@ -3,7 +3,7 @@ use Rattle.std.proofs.Common.{◌≡◌, ℕ, suc, ◌<◌, ◌≤◌, Bool, tru
 use Rattle.std.proofs.lemmas.Bool.{cases_lt}
 use Rattle.des_base.specs.Lists.{numbers_below}
 use Rattle.des_net.specs.Network.{Net, label_of}
-use Rattle.log_clauses.proofs.Lists.{found_is, finds, filter_from}
+use Rattle.log_clauses.proofs.Lists.{found_is, finds}
 use Rattle.log_clauses.proofs.Rules.{has_event, event_matches, is_shown, in_chain, alarm_happens, one_alarm, one_event, one_step, one_step_less, match_comes, match_real, each_comes, each_done, has_alarm, no_step_back}
 use Rattle.log_clauses.specs.Decoded.{alarm_at, alarm_event, is_false_alarm, comes}
 use Rattle.log_clauses.specs.LogClauses.{chain, matching_events}
@@ -12,6 +12,7 @@ use Rattle.log_clauses.specs.LogTruth.{LogClausesHold, GuardsHold}
 use Rattle.log_order.specs.Log.{Log}
 use Rattle.prop_core.specs.VariableNames.{Meaning, happens, matches}
 use Rattle.replay.specs.Explanation.{is_matching}
+use Rattle.des_base.proofs.Elements.{filter_from}
 
 module _ (net : Net) (log : Log) (n : ℕ) (value : Meaning → Bool) (held : LogClausesHold net log n value) (guards : GuardsHold net log value) where
   one_step_of : (i : ℕ) → i < length log.alarms → HasOneStep n value i

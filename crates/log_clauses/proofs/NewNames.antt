@@ -3,14 +3,14 @@ use Rattle.std.proofs.Common.{◌≡◌, ◌≢◌, ℕ, zero, suc, ◌+◌, ◌
 use Rattle.std.proofs.lemmas.List.{length-map}
 use Rattle.std.proofs.lemmas.List.Sums.{length-filter}
 use Rattle.std.proofs.lemmas.List.FromFn.{length-range_with_len}
-use Rattle.des_base.proofs.Elements.{cons_cases, here_first, here_later, none_in_nil, all_from, flat_has, flat_from, map_has, map_from}
+use Rattle.des_base.proofs.Elements.{cons_cases, here_first, here_later, none_in_nil, all_from, flat_has, flat_from, map_has, map_from, filter_has, filter_from, pairs_filter, pairs_append}
 use Rattle.des_base.proofs.NumbersBelow.{range_once}
 use Rattle.des_base.specs.ChainCount.{chain_count}
 use Rattle.des_base.specs.Lists.{EachPair, numbers_below}
 use Rattle.des_net.specs.Network.{Net, label_of, observable_events}
 use Rattle.log_clauses.proofs.Drafts.{flat_length, sum_more, same_count, taken_count, longer, doubtful_more, taken_is, is_taken}
 use Rattle.log_clauses.proofs.Growth.{length_split, length_end, grown, number_split, match_split, taken}
-use Rattle.log_clauses.proofs.Lists.{all_at, filter_has, filter_from, pairs_filter, pairs_append}
+use Rattle.log_clauses.proofs.Lists.{all_at}
 use Rattle.log_clauses.proofs.Rules.{matching_alarm, is_shown, shown_event}
 use Rattle.log_clauses.proofs.Stay.{with_alarm, with_pair, all_range, matching_same, doubtful_same, doubtful_new}
 use Rattle.log_clauses.proofs.Explained.{doubtful_below}

@@ -4,12 +4,12 @@ use Rattle.std.specs.List.{AllByRecursion, range_with_len}
 use Rattle.std.proofs.lemmas.Option.{slice_get-map, slice_get_within}
 use Rattle.std.proofs.lemmas.List.{length-map}
 use Rattle.std.proofs.lemmas.List.FromFn.{length-range_with_len}
-use Rattle.des_base.proofs.Elements.{cons_cases, here_first, here_later, none_in_nil, all_from}
+use Rattle.des_base.proofs.Elements.{cons_cases, here_first, here_later, none_in_nil, all_from, pairs_append}
 use Rattle.des_base.specs.ChainCount.{chain_count}
 use Rattle.des_base.specs.Lists.{numbers_below}
 use Rattle.des_net.specs.Network.{Net}
 use Rattle.log_clauses.proofs.Drafts.{flat_length}
-use Rattle.log_clauses.proofs.Lists.{all_at, pairs_append}
+use Rattle.log_clauses.proofs.Lists.{all_at}
 use Rattle.log_clauses.proofs.NewNames.{meanings_are_new, first_meanings_are_all}
 use Rattle.log_clauses.proofs.Stay.{get_same}
 use Rattle.log_clauses.proofs.Codes.{has_name}

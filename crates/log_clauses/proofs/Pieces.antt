@@ -3,10 +3,10 @@ use Rattle.std.proofs.Common.{◌≡◌, ◌≢◌, ◌↔◌, ℕ, zero, suc, �
 use Rattle.std.specs.Prelude.{⊤}
 use Rattle.des_base.specs.Lists.{EachPair, numbers_below}
 use Rattle.des_net.specs.Network.{Net}
-use Rattle.log_clauses.proofs.Lists.{filter_has, filter_from}
 use Rattle.prop_core.specs.VariableNames.{Meaning, happens}
 use Rattle.run_clauses.specs.Steps.{events_at, IsOrderOf, AreSteps}
 use Rattle.run_clauses.proofs.Lists.{from_numbers, in_numbers}
+use Rattle.des_base.proofs.Elements.{filter_has, filter_from}
 
 -- the piece has the events that are true in the step after t steps, and no event twice
 pub record IsStepSet (net : Net) (value : Meaning → Bool) (t : ℕ) (piece : List ℕ) : Type 0 where

@@ -8,11 +8,11 @@ use Rattle.std.proofs.lemmas.Option.{slice_get_within, slice_get_past, slice_get
 use Rattle.std.proofs.lemmas.List.{get_or_past}
 use Rattle.card_counter.proofs.Exclusions.{exclusion_is_sound}
 use Rattle.card_counter.specs.Exclusions.{AtMostOneOf}
-use Rattle.des_base.proofs.BoolLemmas.{otherwise, either, both, join}
-use Rattle.des_base.proofs.Elements.{cons_cases, here_first, here_later, none_in_nil, contains_at, at_place, some_at}
+use Rattle.des_base.proofs.BoolLemmas.{otherwise, either, both, join, clash}
+use Rattle.des_base.proofs.Elements.{cons_cases, here_first, here_later, none_in_nil, contains_at, at_place, some_at, filter_has, filter_from}
 use Rattle.des_base.specs.Lists.{numbers_below}
 use Rattle.des_net.specs.Network.{Net, Event, label_of, no_event}
-use Rattle.log_clauses.proofs.Lists.{clash, filter_has, filter_from, range_has}
+use Rattle.log_clauses.proofs.Lists.{range_has}
 use Rattle.log_clauses.specs.LogClauses.{chain, IsLink, chain_closed, takes_rest, uses_up, passes_on, taken_or_passed, not_done_first, stays_done, match_is_done, matched_once, done_by_match, one_match, done_if_asked, before_if_asked, matching_events, match_inputs, match_is_real, or_false}
 use Rattle.log_clauses.specs.Decoded.{is_false_alarm, comes}
 use Rattle.log_clauses.specs.LogTruth.{LogClausesHold, GuardsHold}
@@ -28,11 +28,6 @@ one_of true true c h k = inl refl
 one_of true false true h k = inr refl
 one_of true false false h k = cc
 one_of false b c h k = cc
-
-either_rest : (a b c : Bool) → not a || (b || c) ≡ true → a ≡ true → (b ≡ true) ⊎ (c ≡ true)
-either_rest true true c h k = inl refl
-either_rest true false c h k = inr h
-either_rest false b c h k = cc
 
 under_two : (a b c : Bool) → not a || (not b || (c || false)) ≡ true → a ≡ true → b ≡ true → c ≡ true
 under_two true true true h k l = refl

@@ -3,12 +3,13 @@ use Rattle.std.proofs.Common.{◌≡◌, ◌≢◌, ℕ, zero, suc, ◌+◌, ◌
 use Rattle.std.specs.List.{AllByRecursion, AllZip}
 use Rattle.std.proofs.lemmas.Bool.{cases_lt}
 use Rattle.std.proofs.lemmas.List.Elements.{filter-append, All-from_recursion, All-contains, Contains-append_cases, Contains-append_left, Contains-append_right}
-use Rattle.des_base.proofs.Elements.{cons_cases, here_first, here_later, none_in_nil, all_from, zip_append, all_append}
+use Rattle.des_base.proofs.Elements.{here_first, here_later, none_in_nil, all_from, zip_append, all_append, filter_has, filter_from, pairs_filter, pairs_append, mapped_has, mapped_from}
+use Rattle.des_base.proofs.BoolLemmas.{clash}
 use Rattle.des_base.specs.Lists.{EachPair}
 use Rattle.des_net.specs.Network.{Net, label_of}
 use Rattle.des_net.specs.Width.{joined}
 use Rattle.log_clauses.proofs.Entries.{alarms_append, real_append, entries_alarms, entries_real, entries_doubted, AreTold, entries_told, has_false}
-use Rattle.log_clauses.proofs.Lists.{clash, filter_has, filter_from, all_at, pairs_filter, pairs_append, found_is, finds, is_before, from_places}
+use Rattle.log_clauses.proofs.Lists.{all_at, found_is, finds, is_before, from_places}
 use Rattle.log_clauses.proofs.Pieces.{IsStepSet, AreFrom, pieces_are_steps}
 use Rattle.log_clauses.proofs.Rules as rules
 use Rattle.log_clauses.proofs.Rules.{shows, is_shown, shown_event, matching_alarm, has_event, event_matches, one_alarm, one_event, one_step, false_first, comes_by_match, match_comes, match_real, each_comes, has_alarm, no_step_back}
@@ -20,9 +21,6 @@ use Rattle.log_order.specs.Log.{Log, ListsOnce, Keeps, IsValidLog, place_in}
 use Rattle.prop_core.specs.VariableNames.{Meaning, happens, matches, done}
 use Rattle.replay.specs.Explanation.{Entry, alarms_of, real_alarms, may_stand, observables, Shows, Linearises, is_matching}
 
-some_is : {X : Type 0} (a b : X) → Some a ≡ Some b → a ≡ b
-some_is a b h = cc
-
 filter_none : {X : Type 0} (p : X → Bool) (xs : List X) → ((x : X) → Contains xs x → p x ≡ false) → filter p xs ≡ []
 filter_none p [] h = refl
 filter_none p (x ∷ xs) h = rw (h x (here_first x xs x refl)) (filter_none p xs (λ y in'. h y (here_later x xs y in')))
@@ -30,28 +28,6 @@ filter_none p (x ∷ xs) h = rw (h x (here_first x xs x refl)) (filter_none p xs
 filter_each : {X : Type 0} (p : X → Bool) (xs : List X) → ((x : X) → Contains xs x → p x ≡ true) → filter p xs ≡ xs
 filter_each p [] h = refl
 filter_each p (x ∷ xs) h = rw (h x (here_first x xs x refl)) (ap (λ ys. x ∷ ys) (filter_each p xs (λ y in'. h y (here_later x xs y in'))))
-
-mapped_has : {X Y : Type 0} (f : X → Option Y) (xs : List X) (x : X) (y : Y) → Contains xs x → f x ≡ Some y → Contains (filter_map f xs) y
-mapped_has f [] x y in' h = absurd (none_in_nil x in')
-mapped_has f (z ∷ xs) x y in' h = by (f z) refl (cons_cases z xs x in') (λ rest. mapped_has f xs x y rest h)
-  where
-    by : (o : Option _) → f z ≡ o → (z ≡ x) ⊎ Contains xs x → (Contains xs x → Contains (filter_map f xs) y) → Contains (filter_map f (z ∷ xs)) y
-    by None e (inl is) later = let bad : None ≡ Some y = sym e ∙ ap f is ∙ h in cc
-    by (Some w) e (inl is) later = rw e (here_first w (filter_map f xs) y (some_is w y (sym e ∙ ap f is ∙ h)))
-    by None e (inr rest) later = rw e (later rest)
-    by (Some w) e (inr rest) later = rw e (here_later w (filter_map f xs) y (later rest))
-
-mapped_from : {X Y : Type 0} (f : X → Option Y) (xs : List X) (y : Y) → Contains (filter_map f xs) y → (x : X) × Contains xs x × (f x ≡ Some y)
-mapped_from f [] y in' = absurd (none_in_nil y in')
-mapped_from f (z ∷ xs) y in' = by (f z) refl (mapped_from f xs y)
-  where
-    by : (o : Option _) → f z ≡ o → (Contains (filter_map f xs) y → (x : _) × Contains xs x × (f x ≡ Some y)) → (x : _) × Contains (z ∷ xs) x × (f x ≡ Some y)
-    by None e later = let found = later (rw e at in') in (found.0, here_later z xs found.0 found.1, found.2)
-    by (Some w) e later = at (cons_cases w (filter_map f xs) y (rw e at in'))
-      where
-        at : (w ≡ y) ⊎ Contains (filter_map f xs) y → (x : _) × Contains (z ∷ xs) x × (f x ≡ Some y)
-        at (inl is) = (z, here_first z xs z refl, e ∙ ap Some is)
-        at (inr rest) = let found = later rest in (found.0, here_later z xs found.0 found.1, found.2)
 
 -- different elements that are kept give different ones
 mapped_once : {X Y : Type 0} (f : X → Option Y) (xs : List X) → EachPair (λ a b. a ≢ b) xs →

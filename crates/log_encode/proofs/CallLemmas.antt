@@ -2,8 +2,8 @@
 use Rattle.std.proofs.Common.{◌≡◌, ◌⊎◌, inl, inr, ℕ, zero, suc, ◌+◌, ◌*◌, ◌-◌, ◌<◌, ◌≤◌, ◌∙◌, Bool, true, false, List, [], ◌∷◌, ◌++◌, length, map, filter, find, Option, Some, None, refl, sym, ap, subst, arith, slice_get, slice_index_or, Contains, All, IfSome, ◌==◌, ◌&&◌}
 use Rattle.std.specs.List.{AllByRecursion, range_with_len}
 use Rattle.std.proofs.lemmas.List.Elements.{All-from_recursion}
-use Rattle.des_base.proofs.BoolLemmas.{otherwise}
-use Rattle.des_base.proofs.Elements.{cons_cases, none_in_nil, contains_at, at_place, all_from}
+use Rattle.des_base.proofs.BoolLemmas.{otherwise, clash}
+use Rattle.des_base.proofs.Elements.{cons_cases, none_in_nil, contains_at, at_place, all_from, filter_has, filter_from}
 use Rattle.des_base.specs.Lists.{numbers_below}
 use Rattle.des_base.specs.declared.TheConstants.{VAR_LIMIT}
 use Rattle.des_net.specs.Network.{Net, observable_events}
@@ -12,7 +12,6 @@ use Rattle.log_clauses.specs.Additions.{alarm_added, with_addition}
 use Rattle.log_clauses.specs.LogClauses.{chain, guard_literals, matching_events}
 use Rattle.log_clauses.specs.Decoded.{alarm_at, is_false_alarm}
 use Rattle.log_clauses.specs.LogNames.{first_meanings, ReadsInOrder}
-use Rattle.log_clauses.proofs.Lists.{clash, filter_has, filter_from}
 use Rattle.replay.specs.Explanation.{is_matching}
 use Rattle.run_clauses.proofs.Lists.{in_numbers}
 use Rattle.log_clauses.proofs.Numbered.{ordered_literal, ordered_names}
@@ -139,10 +138,6 @@ pub draft_known_events : (code : CodedLog) (labels : List (List ℕ)) (maybe : B
 draft_known_events code labels maybe first chain_ends guards is =
     All-from_recursion (λ (end : ChainEnd). end.event < length code.net.events) chain_ends
     (subst (λ k. AllByRecursion (λ (end : ChainEnd). end.event < k) chain_ends) is.coded.events (draft_known code labels maybe first chain_ends guards is))
-
-pub draft_within : (code : CodedLog) (labels : List (List ℕ)) (maybe : Bool) (first : ℕ) (chain_ends : List ChainEnd) (guards : List Lit) → IsDrafting code labels maybe first chain_ends guards →
-    first + (alarm_variable_count (length (taken_from code.net labels chain_ends)) code.grid.steps + false_width maybe) ≤ VAR_LIMIT
-draft_within code labels maybe first chain_ends guards is = omega (arith, is.few, taken_width code labels maybe chain_ends is.chains.events)
 
 has_rest : (code : CodedLog) (end : ChainEnd) → IsCodedLog code → end.event < code.grid.events → IsChainEnd code end → HasRest code.grid (record { event = end.event; last = end.last })
 has_rest code end coded known is = record { event = known; last = by end.last is.rest }

@@ -4,11 +4,11 @@ use Rattle.std.specs.Prelude.{is_some}
 use Rattle.std.specs.List.{AllByRecursion}
 use Rattle.std.proofs.lemmas.List.Elements.{filter-append}
 use Rattle.des_base.proofs.NumbersBelow.{filter_numbers_yes, numbers_more}
+use Rattle.des_base.proofs.Elements.{filter_from}
 use Rattle.des_base.specs.Lists.{numbers_below}
 use Rattle.des_base.specs.declared.TheConstants.{VAR_LIMIT}
 use Rattle.des_net.specs.Network.{Net, label_of, observable_events}
 use Rattle.log_clauses.specs.LogNames.{first_meanings}
-use Rattle.log_clauses.proofs.Lists.{filter_from}
 use Rattle.log_encode.proofs.TakenLemmas.{map_count}
 use Rattle.prop_core.proofs.NameLemmas.{found_more}
 use Rattle.run_clauses.proofs.LaidOut.{named_at}

@@ -2,7 +2,7 @@
 use Rattle.std.proofs.Common.{◌≡◌, ◌≢◌, ℕ, suc, ◌+◌, ◌*◌, ◌<◌, ◌≤◌, ◌∙◌, Bool, true, false, List, [], ◌∷◌, ◌++◌, length, map, filter, Some, refl, sym, ap, subst, arith, slice_get, length-append, ◌==◌, if◌then◌else◌, append_assoc}
 use Rattle.std.specs.List.{AllByRecursion}
 use Rattle.std.proofs.lemmas.Bool.{eq-eqb, false_from_ne_true, eqb-true}
-use Rattle.des_base.proofs.Elements.{zip_append}
+use Rattle.des_base.proofs.Elements.{zip_append, pairs_filter}
 use Rattle.des_base.proofs.NumbersBelow.{range_once}
 use Rattle.des_base.specs.ChainCount.{chain_count}
 use Rattle.des_base.specs.Lists.{EachPair, numbers_below}
@@ -12,7 +12,6 @@ use Rattle.log_clauses.specs.Additions.{alarm_added, with_addition}
 use Rattle.log_clauses.specs.Drafts.{taken_events}
 use Rattle.log_clauses.specs.LogClauses.{chain}
 use Rattle.log_clauses.specs.LogNames.{HasAlarmPlaces, ReadsInOrder}
-use Rattle.log_clauses.proofs.Lists.{pairs_filter}
 use Rattle.log_clauses.proofs.Numbered.{places_of_meanings}
 use Rattle.log_clauses.proofs.Stay.{doubtful_new}
 use Rattle.log_encode.proofs.CodeLemmas.{names_with_alarm, raised, false_more}

@@ -82,6 +82,14 @@ pub false_is_small : (b : Bool) → false_width b ≤ 1
 false_is_small true = omega arith
 false_is_small false = omega arith
 
+-- events before anything is linked to them
+abbrev pub unlinked : ℕ → Taken
+unlinked e = record { event = e; last = None }
+
+pub events_again : (events : List ℕ) → map (λ (taken : Taken). taken.event) (map unlinked events) ≡ events
+events_again [] = refl
+events_again (e ∷ events) = ap (λ rest. e ∷ rest) (events_again events)
+
 -- how many variables a new alarm takes
 pub width_is : (net : Net) (log : Log) (n : ℕ) (labels : List (List ℕ)) (maybe : Bool) (takes : List Taken) → map (λ (taken : Taken). taken.event) takes ≡ taken_events net log (nameless labels maybe) →
     length (added_meanings net log n (alarm_added (nameless labels maybe))) ≡ alarm_variable_count (length takes) n + false_width maybe

@@ -10,9 +10,3 @@ link_is_small links width link h =
 
 pub count_is_small : (start links width more limit : ℕ) → start + (links * width + more) ≤ limit → links * width + more ≤ limit
 count_is_small start links width more limit h = omega arith
-
--- the variables of one chain end with those of all at the latest
-pub chain_is_small : (links width more steps chain step rest limit start : ℕ) → step < steps → start + (links * width + (more + steps * chain) + rest) ≤ limit → start + (links * width + (more + step * chain)) + chain ≤ limit
-chain_is_small links width more steps chain step rest limit start h within =
-    let next : suc step * chain ≤ steps * chain = mul-le-mul_right chain (omega arith) in
-    omega (arith, suc-mul step chain, next, within)

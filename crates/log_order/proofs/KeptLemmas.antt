@@ -74,9 +74,6 @@ IsKeptOrder-as pairs new_pairs order new_order lists new_lists e f g h =
 
 -- ---- orders and cycles
 
-pub AreOrdered-from : (pairs : List (ℕ × ℕ)) (order : List ℕ) (lists : List (List ℕ)) → IsKeptOrder pairs order lists → AreOrdered (length order) pairs
-AreOrdered-from pairs order lists h = record { known = h.known; order = order; complete = h.listed; kept = h.kept }
-
 with_case : (m : ℕ) (pairs : List (ℕ × ℕ)) (i j : ℕ) (b : Bool) → AreOrdered m pairs → i < m → j < m → reaches pairs j i ≡ false → AreOrdered m (cond b pairs (pairs ++ (i, j) ∷ []))
 with_case m pairs i j true h l k apart = h
 with_case m pairs i j false h l k apart = record {
@@ -85,6 +82,10 @@ with_case m pairs i j false h l k apart = record {
   complete = ListsOnce-moved (reaches pairs j) m h.order h.complete;
   kept = Keeps-moved_new (reaches pairs j) m h.order pairs i j h.complete (reaches-closed pairs j) h.kept l apart (reaches-itself pairs j);
 }
+
+-- a pair that is new stands last
+pub with_pair-new : (pairs : List (ℕ × ℕ)) (i j : ℕ) → has_pair pairs i j ≡ false → with_pair pairs i j ≡ pairs ++ (i, j) ∷ []
+with_pair-new pairs i j new = ap (λ b. cond b pairs (pairs ++ (i, j) ∷ [])) new
 
 -- a pair that closes no cycle leaves an order
 pub AreOrdered-with : (m : ℕ) (pairs : List (ℕ × ℕ)) (i j : ℕ) → AreOrdered m pairs → i < m → j < m → reaches pairs j i ≡ false → AreOrdered m (with_pair pairs i j)

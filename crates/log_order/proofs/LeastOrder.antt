@@ -1,5 +1,5 @@
 -- The order that takes the smallest free number lists each once, and keeps the pairs.
-use Rattle.std.proofs.Common.{◌≡◌, ℕ, zero, suc, ◌+◌, ◌<◌, ◌≤◌, Bool, true, false, cond, not, ◌||◌, ◌&&◌, List, [], ◌∷◌, ◌++◌, length, replicate, Option, None, Some, refl, inl, inr, arith, ap, sym, ◌∙◌, subst}
+use Rattle.std.proofs.Common.{◌≡◌, ℕ, zero, suc, ◌+◌, ◌<◌, ◌≤◌, Bool, true, false, cond, not, ◌||◌, ◌&&◌, List, [], ◌∷◌, ◌++◌, length, Option, None, Some, refl, inl, inr, arith, ap, sym, ◌∙◌, subst}
 use Rattle.std.specs.Prelude.{◌==◌, ◌≢◌, slice_set}
 use Rattle.std.specs.List.{list_any, AllByRecursion}
 use Rattle.std.specs.Option.{option_map_or}
@@ -248,19 +248,11 @@ first_below-marks m pairs order taken marks t w =
     let all : (i : ℕ) → is_marked marks i ≡ is_held_back (is_in order) pairs i = λ i. w i ∙ ap (λ test. is_held_back test pairs i) tests in
     λ k. first_below m (λ i. not (all i k))
 
-pub with_next-none : (m : ℕ) (pairs : List (ℕ × ℕ)) (taken : List ℕ) → first_below m (λ i. not (is_held_back (is_in taken) pairs i)) ≡ None → taken ≡ with_next m pairs taken
-with_next-none m pairs taken h = sym (ap (λ o. option_map_or (λ i. taken ++ i ∷ []) o taken) h)
-
 pub with_next-some : (m : ℕ) (pairs : List (ℕ × ℕ)) (taken : List ℕ) (i : ℕ) → first_below m (λ i. not (is_held_back (is_in taken) pairs i)) ≡ Some i → with_next m pairs taken ≡ taken ++ i ∷ []
 with_next-some m pairs taken i h = ap (λ o. option_map_or (λ i. taken ++ i ∷ []) o taken) h
 
 pub taken-more : (order : List ℕ) (taken new : List Bool) (next i : ℕ) → next < length taken → new ≡ slice_set taken next true → ((j : ℕ) → is_marked taken j ≡ is_in order j) → is_marked new i ≡ is_in (order ++ next ∷ []) i
 taken-more order taken new next i l e h = ap (λ ms. is_marked ms i) e ∙ marked-set taken next i l ∙ ap (λ b. b || (next == i)) (h i) ∙ sym (in-push order next i)
-
-pub none-taken : (n i : ℕ) → is_marked (replicate n false) i ≡ false
-none-taken zero i = refl
-none-taken (suc n) zero = refl
-none-taken (suc n) (suc i) = none-taken n i
 
 -- what a search through the marks finds is the smallest free number
 pub next-is : (n m : ℕ) (pairs : List (ℕ × ℕ)) (order : List ℕ) (taken read marks read_marks : List Bool) (next : ℕ) → n ≡ m → read ≡ taken → read_marks ≡ marks → ((i : ℕ) → is_marked taken i ≡ is_in order i)

@@ -11,7 +11,7 @@ use Rattle.des_base.proofs.BoolLemmas.{both, either, or_left, or_right, otherwis
 use Rattle.log_order.proofs.Places.{places-from}
 use Rattle.log_order.proofs.Reaching.{IsClosed, reaches-least, reaches-closed, reaches-itself}
 use Rattle.log_order.proofs.OrderLemmas.{stands-kept}
-use Rattle.log_order.proofs.MarkLemmas.{marked-set}
+use Rattle.log_order.proofs.MarkLemmas.{marked-set, none_marked}
 
 -- ---- places in an order
 
@@ -67,11 +67,6 @@ list-at pairs order lists k x list h l at is =
     is ∙ get_or_default lists x list [] (let same = h.matched in omega arith)
 
 -- ---- the pass
-
-none_marked : (n i : ℕ) → is_marked (replicate n false) i ≡ false
-none_marked zero i = refl
-none_marked (suc n) zero = refl
-none_marked (suc n) (suc i) = none_marked n i
 
 length_replicate : (n : ℕ) → length (replicate n false) ≡ n
 length_replicate zero = refl

@@ -1,13 +1,14 @@
 -- The clauses of a list as axioms of a book, one after another, and what the book then has.
-use Rattle.std.proofs.Common.{◌≡◌, ◌∙◌, ℕ, ◌+◌, ◌-◌, ◌<◌, ◌≤◌, false, List, [], ◌∷◌, ◌++◌, length, map, take, Option, Some, unwrap_or, get_or, eqb, refl, sym, ap, arith, sum_by}
+use Rattle.std.proofs.Common.{◌≡◌, ◌∙◌, ℕ, ◌+◌, ◌-◌, ◌<◌, ◌≤◌, false, List, [], ◌∷◌, ◌++◌, length, map, take, Option, Some, unwrap_or, get_or, eqb, refl, sym, ap, arith, sum_by, count_by, cond}
 use Rattle.std.proofs.lemmas.Bool.{ne_eqb}
 use Rattle.std.proofs.lemmas.List.{append_assoc, append-nil, map-append, take_more}
 use Rattle.std.proofs.lemmas.List.Elements.{filter_map-append}
-use Rattle.std.proofs.lemmas.List.Sums.{sum_by_more, sum_by_more_le}
+use Rattle.std.proofs.lemmas.List.Sums.{sum_by_more, sum_by_more_le, sum_by-append, sum_by-cons}
 use Rattle.std.proofs.lemmas.Option.{slice_get-get_or}
 use Rattle.prop_core.specs.Clauses.{Clause}
 use Rattle.prop_core.specs.Derivation.{clause_numbered}
 use Rattle.proof_ledger.specs.Book.{BookEntry, axiomatic, mark, axiom_of, clause_of, axioms_of, clauses_of}
+use Rattle.proof_ledger.specs.Fresh.{is_learnt}
 
 -- the clause with the next number stands at the next place
 clause_at : (all : List Clause) (n : ℕ) (clause : Clause) → n < length all → clause_numbered all (n + 1) ≡ Some clause → get_or all n [] ≡ clause
@@ -55,3 +56,22 @@ marked_axioms book number = filter_map-append axiom_of book (mark number ∷ [])
 
 pub marked_clauses : (book : List BookEntry) (number : ℕ) → clauses_of (book ++ mark number ∷ []) ≡ clauses_of book
 marked_clauses book number = filter_map-append clause_of book (mark number ∷ []) ∙ append-nil (clauses_of book)
+
+-- nor do marks before and behind what follows
+pub axioms_between : (old since : List BookEntry) → axioms_of (old ++ mark 0 ∷ since ++ mark 1 ∷ []) ≡ axioms_of ((old ++ mark 0 ∷ []) ++ since)
+axioms_between old since =
+    filter_map-append axiom_of (old ++ mark 0 ∷ since) (mark 1 ∷ []) ∙ append-nil (axioms_of (old ++ mark 0 ∷ since)) ∙ ap axioms_of (sym (append_assoc old (mark 0 ∷ []) since))
+
+-- ---- axioms and marks are not learnt
+
+pub none_learnt : (clauses : List Clause) → count_by is_learnt (map axiomatic clauses) ≡ 0
+none_learnt [] = refl
+none_learnt (clause ∷ clauses) = none_learnt clauses
+
+pub learnt_between : (clauses : List Clause) (since : List BookEntry) → count_by is_learnt (map axiomatic clauses ++ mark 0 ∷ since ++ mark 1 ∷ []) ≡ count_by is_learnt since
+learnt_between clauses since =
+    let count = λ (e : BookEntry). cond (is_learnt e) 1 0 in
+    let closing = sum_by-append count (map axiomatic clauses ++ mark 0 ∷ since) (mark 1 ∷ []) in
+    let axioms = sum_by-append count (map axiomatic clauses) (mark 0 ∷ since) in
+    let opening = sum_by-cons count (mark 0) since in
+    omega (arith, closing, axioms, opening, none_learnt clauses)

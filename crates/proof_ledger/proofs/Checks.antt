@@ -1,8 +1,7 @@
 -- A proof that is verified refutes its axioms.
-use Rattle.std.proofs.Common.{◌≡◌, ◌∙◌, ℕ, zero, suc, ◌+◌, ◌-◌, ◌<◌, ◌≤◌, ◌==◌, Bool, true, false, ◌∷◌, [], List, refl, ap, sym, length, arith, subst, drop, Some, None, Option, slice_get, get_or, cond, IsTrue, nat_eq, add-one}
+use Rattle.std.proofs.Common.{◌≡◌, ◌∙◌, ℕ, zero, suc, ◌+◌, ◌-◌, ◌<◌, ◌==◌, Bool, true, false, ◌∷◌, [], List, refl, ap, sym, length, arith, subst, drop, Some, None, Option, slice_get, get_or, cond, IsTrue, nat_eq, add-one, sub-one}
 use Rattle.std.proofs.Math.Seq.{drop-cons}
 use Rattle.std.specs.List.{list_any}
-use Rattle.std.proofs.lemmas.Grind.{common_steps}
 use Rattle.prop_core.specs.Clauses.{Clause, clause_true, AllClausesTrue}
 use Rattle.prop_core.specs.Derivation.{derive, Derivation, derives, fails, clause_numbered}
 use Rattle.prop_core.specs.Laws.{MakesHeldTrue}
@@ -10,8 +9,9 @@ use Rattle.prop_core.proofs.Entailed.{derived_clauses_are_true}
 use Rattle.proof_ledger.specs.declared.checker.ProofStep.{ProofStep}
 use Rattle.proof_ledger.specs.declared.checker.ProofStep.TheVariants.{Add, Delete}
 use Rattle.proof_ledger.specs.declared.checker.Checked.{Checked}
-use Rattle.proof_ledger.specs.declared.checker.Checked.TheVariants.{Verified, Rejected}
+use Rattle.proof_ledger.specs.declared.checker.Checked.TheVariants.{Verified}
 use Rattle.proof_ledger.specs.Checking.{with_clause, without, is_empty_clause, Checking, answered, holds, after_add, after_step, check_from, check_proof, IsCheckedSoFar, IsUnsatisfiable}
+use Rattle.des_base.proofs.BoolLemmas.{differ}
 
 -- two that hold the same are one
 pub held_same : (f g : ℕ → Option Clause) → ((n : ℕ) → f n ≡ g n) → f ≡ g
@@ -65,6 +65,10 @@ one_of value [] all k given h = cc
 one_of value (c ∷ clauses) all zero given h = let is : c ≡ given = cc in subst (λ (d : Clause). IsTrue (clause_true value d)) is all.0
 one_of value (c ∷ clauses) all (suc k) given h = one_of value clauses all.1 k given h
 
+-- numbers count from one
+pub numbered-suc : (cs : List Clause) (j : ℕ) → clause_numbered cs (suc j) ≡ slice_get cs j
+numbered-suc cs j = rw (differ (suc j) 0 (λ e. omega arith), sub-one) refl
+
 pub numbered_true : (value : ℕ → Bool) (clauses : List Clause) → AllClausesTrue value clauses → MakesHeldTrue value (clause_numbered clauses)
 numbered_true value clauses all number given e = by (number == 0) e
   where
@@ -88,10 +92,6 @@ pub check-holds : (held after : ℕ → Option Clause) (steps : List ProofStep) 
     IsCheckedSoFar (after_step held step) None after → check_from held (drop i steps) ≡ check_from after (drop (i + 1) steps)
 check-holds held after steps i step h e (other, is, same) =
     ap (check_from held) (step_more steps i step h e) ∙ (rw (is, check_from) refl ∙ ap (λ (f : ℕ → Option Clause). check_from f (drop (i + 1) steps)) (sym (held_same after other same)))
-
--- or there is none
-pub check-end : (held : ℕ → Option Clause) (steps : List ProofStep) (i : ℕ) → length steps ≤ i → check_from held (drop i steps) ≡ Rejected 0 4
-check-end held steps i h = let e : drop i steps ≡ [] = grind (arith, common_steps) in ap (check_from held) e
 
 -- a step that adds a clause, other than the empty one
 pub add_holds : (held : ℕ → Option Clause) (step : ProofStep) (line id : ℕ) (clause : Clause) (hints : List ℕ) → step ≡ Add line id clause hints → derive held clause hints ≡ derives →

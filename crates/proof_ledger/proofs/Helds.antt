@@ -1,11 +1,12 @@
 -- Clauses that are held, as they come and go.
-use Rattle.std.proofs.Common.{◌≡◌, ◌∙◌, ℕ, zero, suc, ◌+◌, ◌<◌, ◌==◌, Bool, true, false, ◌||◌, ◌∷◌, [], List, refl, ap, sym, length, arith, subst, take, Some, None, Option, slice_get, get_or, cond, nat_eq, add-one, sub-one}
+use Rattle.std.proofs.Common.{◌≡◌, ◌∙◌, ℕ, zero, suc, ◌+◌, ◌<◌, ◌==◌, Bool, true, false, ◌||◌, ◌∷◌, [], List, refl, ap, sym, length, arith, subst, take, Some, slice_get, get_or, cond, add-one}
 use Rattle.std.specs.List.{list_any}
 use Rattle.std.proofs.lemmas.Bool.{eqb-true, eq-eqb}
 use Rattle.des_base.proofs.BoolLemmas.{differ}
 use Rattle.prop_core.specs.Clauses.{Clause}
 use Rattle.prop_core.specs.Derivation.{clause_numbered}
-use Rattle.proof_ledger.specs.Checking.{with_clause, without}
+use Rattle.proof_ledger.specs.Checking.{with_clause}
+use Rattle.proof_ledger.proofs.Checks.{numbered-suc}
 
 get-take-last : (cs : List Clause) (k : ℕ) → slice_get (take (suc k) cs) k ≡ slice_get cs k
 get-take-last [] zero = refl
@@ -21,9 +22,6 @@ get-take-other (c ∷ []) zero (suc j) ne = refl
 get-take-other (c ∷ d ∷ cs) zero (suc j) ne = refl
 get-take-other (c ∷ cs) (suc k) zero ne = refl
 get-take-other (c ∷ cs) (suc k) (suc j) ne = get-take-other cs k j (λ e. ne (ap suc e))
-
-numbered-suc : (cs : List Clause) (j : ℕ) → clause_numbered cs (suc j) ≡ slice_get cs j
-numbered-suc cs j = rw (differ (suc j) 0 (λ e. omega arith), sub-one) refl
 
 -- one more of the clauses is held
 pub numbered_more : (cs : List Clause) (k : ℕ) (c : Clause) (asked : ℕ) → clause_numbered cs (k + 1) ≡ Some c → with_clause (clause_numbered (take k cs)) (k + 1) c asked ≡ clause_numbered (take (k + 1) cs) asked
@@ -58,16 +56,3 @@ any-take p (x ∷ xs) (suc i) h = by (p x) (any-take p xs i (omega arith))
     by : (b : Bool) → list_any p (take (suc i) xs) ≡ list_any p (take i xs) || p (get_or xs i 0) → b || list_any p (take (suc i) xs) ≡ (b || list_any p (take i xs)) || p (get_or xs i 0)
     by true e = refl
     by false e = e
-
--- one more of the numbers is held no longer
-pub without_more : (held : ℕ → Option Clause) (xs : List ℕ) (i asked : ℕ) → i < length xs → without (without held (take i xs)) (get_or xs i 0 ∷ []) asked ≡ without held (take (i + 1) xs) asked
-without_more held xs i asked h =
-    let n : suc i ≡ i + 1 = omega arith in
-    subst (λ (m : ℕ). without (without held (take i xs)) (get_or xs i 0 ∷ []) asked ≡ without held (take m xs) asked) n
-    (by (list_any (nat_eq asked) (take i xs)) (nat_eq asked (get_or xs i 0)) (held asked) ∙ ap (λ b. cond b None (held asked)) (sym (any-take (nat_eq asked) xs i h)))
-  where
-    by : (a b : Bool) (o : Option Clause) → cond (b || false) None (cond a None o) ≡ cond (a || b) None o
-    by true true o = refl
-    by true false o = refl
-    by false true o = refl
-    by false false o = refl

@@ -1,13 +1,10 @@
 -- Marks for the literals that are taken as true.
-use Rattle.std.proofs.Common.{◌≡◌, ◌∙◌, ℕ, suc, ◌+◌, ◌*◌, ◌<◌, ◌≤◌, ◌==◌, Bool, true, false, ◌||◌, ◌++◌, ◌∷◌, [], List, refl, ap, sym, length, arith, subst, drop, get_or, cond, add-one}
-use Rattle.std.proofs.Math.Seq.{drop-cons}
-use Rattle.std.proofs.lemmas.Grind.{common_steps}
+use Rattle.std.proofs.Common.{◌≡◌, ℕ, ◌+◌, ◌*◌, ◌==◌, Bool, true, false, ◌||◌, ◌++◌, ◌∷◌, [], List, refl, sym, arith, get_or, cond}
 use Rattle.std.proofs.lemmas.Bool.{eqb-true, eq-eqb}
 use Rattle.prop_core.specs.declared.lit.Lit.{Lit}
 use Rattle.prop_core.specs.Clauses.{is_true, same_literal}
 use Rattle.prop_core.specs.LiteralNumbers.{literal_number}
 use Rattle.prop_core.proofs.Entailed.{both, beq_is, beq_itself}
-use Rattle.proof_ledger.specs.Marks.{AreMarked}
 
 -- different literals have different places
 place_apart : (x y : ℕ) (a b : Bool) → 2 * x + cond a 1 0 ≡ 2 * y + cond b 1 0 → (x ≡ y) × (a ≡ b)
@@ -49,38 +46,6 @@ any-append l (t ∷ taken) x = by (same_literal l t) (same_literal l x) (any-app
     by true false h = refl
     by false b h = h
 
--- one more is taken and marked
-pub marked_more : (marks more : List Bool) (taken : List Lit) (x : Lit) → AreMarked marks taken →
-    ((k : ℕ) → get_or more k false ≡ cond (k == literal_number x) true (get_or marks k false)) → AreMarked more (taken ++ x ∷ [])
-marked_more marks more taken x all set = λ l.
-    set (literal_number l) ∙ ap (λ b. cond b true (get_or marks (literal_number l) false)) (same_place l x) ∙ ap (λ b. cond (same_literal l x) true b) (all l) ∙ sym (any-append l taken x)
-
 -- what is still marked is among those that follow
 abbrev pub MarkedAmong : List Bool → List Lit → Type 0
 MarkedAmong marks rest = (l : Lit) → get_or marks (literal_number l) false ≡ true → is_true rest l ≡ true
-
-pub among_all : (marks : List Bool) (taken : List Lit) → AreMarked marks taken → MarkedAmong marks taken
-among_all marks taken all = λ l h. sym (all l) ∙ h
-
-pub among_less : (marks fewer : List Bool) (taken : List Lit) (i : ℕ) (x : Lit) → i < length taken → x ≡ get_or taken i x → MarkedAmong marks (drop i taken) →
-    ((k : ℕ) → get_or fewer k false ≡ cond (k == literal_number x) false (get_or marks k false)) → MarkedAmong fewer (drop (i + 1) taken)
-among_less marks fewer taken i x below is all cleared = λ l h. by l (same_literal l x) refl (sym (cleared (literal_number l) ∙ ap (λ b. cond b false (get_or marks (literal_number l) false)) (same_place l x)) ∙ h)
-  where
-    split : drop i taken ≡ x ∷ drop (i + 1) taken
-    split = rw (add-one, drop-cons taken i x below) (ap (λ s. s ∷ drop (suc i) taken) (sym is))
-
-    by : (l : Lit) (b : Bool) → same_literal l x ≡ b → cond (same_literal l x) false (get_or marks (literal_number l) false) ≡ true → is_true (drop (i + 1) taken) l ≡ true
-    by l true e h = let g = rw e at h in cc
-    by l false e h =
-        let here = subst (λ s. is_true s l ≡ true) split (all l (rw e at h)) in
-        rw e at here
-
-pub among_none : (marks : List Bool) (taken : List Lit) (i : ℕ) → length taken ≤ i → MarkedAmong marks (drop i taken) → AreMarked marks []
-among_none marks taken i above all = λ l. by l (get_or marks (literal_number l) false) refl
-  where
-    gone : drop i taken ≡ []
-    gone = grind (arith, common_steps)
-
-    by : (l : Lit) (b : Bool) → get_or marks (literal_number l) false ≡ b → b ≡ false
-    by l true e = let h = subst (λ s. is_true s l ≡ true) gone (all l e) in cc
-    by l false e = refl

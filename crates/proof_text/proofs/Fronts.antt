@@ -1,12 +1,12 @@
 -- The entries of a book one after another, up to a final one.
-use Rattle.std.proofs.Common.{◌≡◌, ◌∙◌, ◌⊎◌, inl, inr, ℕ, zero, suc, ◌+◌, ◌-◌, ◌<◌, ◌≤◌, ◌==◌, Bool, true, false, List, [], ◌∷◌, ◌++◌, map, length, take, Option, None, Some, slice_get, refl, sym, ap, subst, arith, append-nil, append_assoc, length-append, add-zero, sub-one}
-use Rattle.des_base.proofs.BoolLemmas.{differ}
+use Rattle.std.proofs.Common.{◌≡◌, ◌∙◌, ◌⊎◌, inl, inr, ℕ, zero, suc, ◌+◌, ◌-◌, ◌<◌, ◌≤◌, ◌==◌, Bool, true, false, List, [], ◌∷◌, ◌++◌, map, length, take, Option, None, Some, slice_get, refl, sym, ap, subst, arith, append-nil, append_assoc, length-append, add-zero}
 use Rattle.std.specs.Prelude.{MatchOption, filter_map}
 use Rattle.std.specs.List.{range_with_len}
 use Rattle.std.proofs.lemmas.List.Elements.{filter_map-append}
 use Rattle.std.proofs.lemmas.Bool.{eqb-true, eq-eqb}
 use Rattle.std.proofs.lemmas.Option.{slice_get_within}
 use Rattle.des_base.proofs.Elements.{take_whole}
+pub use Rattle.des_base.proofs.Elements.{take_at}
 use Rattle.prop_core.specs.declared.lit.Lit.{Lit}
 use Rattle.prop_core.specs.Clauses.{Clause}
 use Rattle.prop_core.specs.Derivation.{clause_numbered}
@@ -17,16 +17,9 @@ use Rattle.proof_ledger.specs.declared.entry.Entry.{Entry}
 use Rattle.proof_ledger.specs.declared.entry.Entry.TheVariants.{Axiom, Learnt, Final, Mark}
 use Rattle.proof_text.proofs.PrintLemmas.{numbered_at}
 use Rattle.proof_text.specs.Refutation.{EndsIn, front_to, is_numbered, numbers_from, new_number, derived_clause_of, derived_of, derived_steps, IsStepOf}
+use Rattle.proof_ledger.proofs.Checks.{numbered-suc}
 
 -- ---- the entry at a place
-
-take_next : {X : Type 0} (xs : List X) (k : ℕ) (x : X) → slice_get xs k ≡ Some x → take (suc k) xs ≡ take k xs ++ x ∷ []
-take_next [] k x h = cc
-take_next (y ∷ xs) zero x h = cc
-take_next (y ∷ xs) (suc k) x h = ap (λ ys. y ∷ ys) (take_next xs k x h)
-
-pub take_at : {X : Type 0} (xs : List X) (k : ℕ) (x : X) → slice_get xs k ≡ Some x → take (k + 1) xs ≡ take k xs ++ x ∷ []
-take_at xs k x h = let on : k + 1 ≡ suc k = omega arith in ap (λ n. take n xs) on ∙ take_next xs k x h
 
 -- the number that a clause at a place has
 abbrev pub number_at : List BookEntry → ℕ → ℕ
@@ -76,7 +69,7 @@ same_clause book place n e d c there has number is =
     cc
 
 numbered_by : (clauses : List Clause) (k : ℕ) (c : Clause) → slice_get clauses k ≡ Some c → clause_numbered clauses (k + 1) ≡ Some c
-numbered_by clauses k c h = let on : k + 1 ≡ suc k = omega arith in ap (clause_numbered clauses) on ∙ (rw (differ (suc k) 0 (λ e. omega arith), sub-one) refl) ∙ h
+numbered_by clauses k c h = let on : k + 1 ≡ suc k = omega arith in ap (clause_numbered clauses) on ∙ numbered-suc clauses k ∙ h
 
 learnt_same : {n m : ℕ} → Learnt n ≡ Learnt m → n ≡ m
 learnt_same h = cc
@@ -177,22 +170,6 @@ module _ {X : Type 0} (f : BookEntry → Option X) (book : List BookEntry) (plac
   pub of_more : filter_map f (take (place + 1) book) ≡ filter_map f (take place book) ++ filter_map f (e ∷ [])
   of_more = ap (filter_map f) (take_at book place e is) ∙ filter_map-append f (take place book) (e ∷ [])
 
--- An axiom's clause, as it is looked up by its number, comes after those before.
-pub axiom_more : (book : List BookEntry) (place n : ℕ) (c : Clause) → IsEntryAt book place (Axiom n) → clause_numbered (clauses_of book) n ≡ Some c → axioms_of (take (place + 1) book) ≡ axioms_of (take place book) ++ c ∷ []
-axiom_more book place n c at is = by s.e s.there s.seen
-  where
-    s : Seen book place (Axiom n)
-    s = seen_at book place (Axiom n) at
-
-    by : (e : BookEntry) → slice_get book place ≡ Some e → Axiom n ≡ shown (number_at book place) e → axioms_of (take (place + 1) book) ≡ axioms_of (take place book) ++ c ∷ []
-    by (axiomatic d) there seen = of_more axiom_of book place (axiomatic d) there ∙ ap (λ (x : Clause). axioms_of (take place book) ++ x ∷ []) (same_clause book place n (axiomatic d) d c there refl number is)
-      where
-        number : n ≡ number_at book place
-        number = cc
-    by (learnt d hints) there seen = cc
-    by (final d hints) there seen = cc
-    by (mark k) there seen = cc
-
 -- so there is one more
 pub axiom_counted : (book : List BookEntry) (place n : ℕ) → IsEntryAt book place (Axiom n) → length (axioms_of (take (place + 1) book)) ≡ length (axioms_of (take place book)) + 1
 axiom_counted book place n at = by s.e s.there s.seen
@@ -240,22 +217,6 @@ derived_within book place n entry at is = by s.e s.there s.seen is
     by (final d hints) there seen (inl h) = cc
     by (mark k) there seen (inl h) = cc
     by (mark k) there seen (inr h) = cc
-
--- an axiom's number is that of a clause
-pub axiom_within : (book : List BookEntry) (place n : ℕ) → IsEntryAt book place (Axiom n) → n ≤ length (clauses_of book)
-axiom_within book place n at = by s.e s.there s.seen
-  where
-    s : Seen book place (Axiom n)
-    s = seen_at book place (Axiom n) at
-
-    by : (e : BookEntry) → slice_get book place ≡ Some e → Axiom n ≡ shown (number_at book place) e → n ≤ length (clauses_of book)
-    by (axiomatic d) there seen =
-        let number : n ≡ number_at book place = cc in
-        let below = slice_get_within (clauses_of book) (length (clauses_of (take place book))) d (numbered_there book place (axiomatic d) d there refl) in
-        omega (arith, number, below)
-    by (learnt d hints) there seen = cc
-    by (final d hints) there seen = cc
-    by (mark k) there seen = cc
 
 -- ---- new numbers
 

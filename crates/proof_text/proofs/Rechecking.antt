@@ -1,8 +1,7 @@
 -- The refutation that a book holds checks.
-use Rattle.std.proofs.Common.{◌≡◌, ◌∙◌, ℕ, zero, suc, ◌+◌, ◌-◌, ◌==◌, Bool, true, false, cond, ◌&&◌, ◌||◌, List, [], ◌∷◌, ◌++◌, map, length, Option, None, Some, slice_get, take, refl, sym, ap, subst, arith, Contains, append-nil, append_assoc, length-append, sub-one}
-use Rattle.des_base.proofs.BoolLemmas.{differ}
+use Rattle.std.proofs.Common.{◌≡◌, ◌∙◌, ℕ, zero, suc, ◌+◌, ◌-◌, ◌==◌, Bool, true, false, cond, ◌&&◌, List, [], ◌∷◌, ◌++◌, map, length, Option, None, Some, slice_get, take, refl, sym, ap, subst, arith, Contains, append-nil, append_assoc, length-append}
+use Rattle.des_base.proofs.BoolLemmas.{differ, or_left, or_right}
 use Rattle.std.specs.Prelude.{⊤, slice_index_or}
-use Rattle.std.specs.Bool.{beq}
 use Rattle.std.specs.List.{AllByRecursion, list_all, range_with_len}
 use Rattle.std.proofs.lemmas.List.{length-map}
 use Rattle.std.proofs.lemmas.List.Elements.{filter_map-append}
@@ -10,14 +9,15 @@ use Rattle.std.proofs.lemmas.List.Folds.{list_any-append}
 use Rattle.std.proofs.lemmas.Bool.{eqb-true, eq-eqb}
 use Rattle.prop_core.specs.declared.lit.Lit.{Lit}
 use Rattle.prop_core.specs.Clauses.{Clause, negation, same_literal, is_true, is_false, NegatesOnly}
-use Rattle.prop_core.specs.Derivation.{Standing, falsified, satisfied, unit, wide, standing, after_standing, after_hint, two_open, hints_end, follow, Derivation, derives, fails, ended, derive, clause_numbered}
+use Rattle.prop_core.specs.Derivation.{Standing, falsified, satisfied, unit, wide, standing, after_standing, after_hint, two_open, hints_end, follow, Derivation, derives, fails, derive, clause_numbered}
 use Rattle.prop_core.proofs.Following.{follow-falsified, follow-satisfied, follow-unit, follow_ended}
+use Rattle.prop_core.proofs.Entailed.{same_itself}
 use Rattle.proof_ledger.specs.Book.{BookEntry, axiomatic, learnt, final, mark, axiom_of, clause_of, axioms_of, clauses_of, EachAfter, IsDerivedIfDue, IsValidBook}
 use Rattle.proof_ledger.specs.Checking.{with_clause, is_empty_clause, answered, holds, after_add, after_step, check_from, check_proof}
 use Rattle.proof_ledger.specs.declared.checker.ProofStep.{ProofStep}
 use Rattle.proof_ledger.specs.declared.checker.ProofStep.TheVariants.{Add}
 use Rattle.proof_ledger.specs.declared.checker.Checked.TheVariants.{Verified}
-use Rattle.proof_ledger.proofs.Checks.{held_same}
+use Rattle.proof_ledger.proofs.Checks.{held_same, numbered-suc}
 use Rattle.proof_text.proofs.Fronts.{front_ends}
 use Rattle.proof_text.specs.Refutation.{unit_clauses, refuted_formula, numbers_from, new_number, derived_of, derived_steps, steps_behind, refutation_steps, EndsIn, front_to, RefutationsCheck}
 
@@ -25,9 +25,6 @@ use Rattle.proof_text.specs.Refutation.{unit_clauses, refuted_formula, numbers_f
 
 abbrev IsAt : List Clause → ℕ → Clause → Type 0
 IsAt clauses number clause = clause_numbered clauses number ≡ Some clause
-
-numbered : (clauses : List Clause) (i : ℕ) → clause_numbered clauses (suc i) ≡ slice_get clauses i
-numbered clauses i = rw (differ (suc i) 0 (λ e. omega arith), sub-one) refl
 
 get_front : (xs ys : List Clause) (i : ℕ) (c : Clause) → slice_get xs i ≡ Some c → slice_get (xs ++ ys) i ≡ Some c
 get_front [] ys i c h = cc
@@ -40,10 +37,10 @@ get_seam (x ∷ xs) c ys = get_seam xs c ys
 
 at_front : (xs ys : List Clause) (n : ℕ) (c : Clause) → IsAt xs n c → IsAt (xs ++ ys) n c
 at_front xs ys zero c h = cc
-at_front xs ys (suc i) c h = numbered (xs ++ ys) i ∙ get_front xs ys i c (sym (numbered xs i) ∙ h)
+at_front xs ys (suc i) c h = numbered-suc (xs ++ ys) i ∙ get_front xs ys i c (sym (numbered-suc xs i) ∙ h)
 
 at_seam : (xs : List Clause) (c : Clause) (ys : List Clause) → IsAt (xs ++ c ∷ ys) (length xs + 1) c
-at_seam xs c ys = let next : suc (length xs) ≡ length xs + 1 = omega arith in subst (λ n. IsAt (xs ++ c ∷ ys) n c) next (numbered (xs ++ c ∷ ys) (length xs) ∙ get_seam xs c ys)
+at_seam xs c ys = let next : suc (length xs) ≡ length xs + 1 = omega arith in subst (λ n. IsAt (xs ++ c ∷ ys) n c) next (numbered-suc (xs ++ c ∷ ys) (length xs) ∙ get_seam xs c ys)
 
 -- the numbers are those of the clauses
 abbrev AreAt : List Clause → List ℕ → List Clause → Type 0
@@ -75,7 +72,7 @@ renumbered : (xs : List Clause) (ns more : List ℕ) (cs : List Clause) (n : ℕ
 renumbered xs ns more cs zero c h is = cc
 renumbered xs ns more cs (suc i) c h is =
     let one : suc i - 1 ≡ i = omega arith in
-    subst (λ j. IsAt xs (slice_index_or (ns ++ more) j 1) c) (sym one) (number_at xs ns more cs i c h (sym (numbered cs i) ∙ is))
+    subst (λ j. IsAt xs (slice_index_or (ns ++ more) j 1) c) (sym one) (number_at xs ns more cs i c h (sym (numbered-suc cs i) ∙ is))
 
 -- ---- hints by other numbers
 
@@ -121,7 +118,7 @@ one_more xs c = held_same (with_clause (clause_numbered xs) (length xs + 1) c) (
         by true e = let same : suc i ≡ length xs + 1 = eqb-true (suc i) (length xs + 1) e in rw e (sym (subst (λ n. IsAt (xs ++ c ∷ []) n c) (sym same) (at_seam xs c [])))
         by false e =
             let other : i ≡ length xs → ⊥ = λ s. let h = eq-eqb (suc i) (length xs + 1) (omega arith) in cc in
-            rw e (numbered xs i ∙ get_other xs i other ∙ sym (numbered (xs ++ c ∷ []) i))
+            rw e (numbered-suc xs i ∙ get_other xs i other ∙ sym (numbered-suc (xs ++ c ∷ []) i))
 
 -- ---- the steps
 
@@ -225,30 +222,11 @@ module _ (axioms assumptions : List Clause) (numbers : List ℕ) (tail : List Pr
 
 -- ---- the empty clause at the end
 
-same_self : (l : Lit) → same_literal l l ≡ true
-same_self l = and_true (l.var == l.var) _ (eq-eqb l.var l.var refl) (same_sign l.positive)
-  where
-    and_true : (a b : Bool) → a ≡ true → b ≡ true → (a && b) ≡ true
-    and_true true b h k = k
-    and_true false b h k = cc
-
-    same_sign : (b : Bool) → beq b b ≡ true
-    same_sign true = refl
-    same_sign false = refl
-
-or_left : (a b : Bool) → a ≡ true → (a || b) ≡ true
-or_left true b h = refl
-or_left false b h = cc
-
-or_right : (a b : Bool) → b ≡ true → (a || b) ≡ true
-or_right true b h = refl
-or_right false b h = h
-
 true_later : (taken more : List Lit) (l : Lit) → is_true taken l ≡ true → is_true (taken ++ more) l ≡ true
 true_later taken more l h = list_any-append (same_literal l) taken more ∙ or_left (is_true taken l) (is_true more l) h
 
 true_last : (taken : List Lit) (l : Lit) → is_true (taken ++ l ∷ []) l ≡ true
-true_last taken l = list_any-append (same_literal l) taken (l ∷ []) ∙ or_right (is_true taken l) (is_true (l ∷ []) l) (or_left (same_literal l l) false (same_self l))
+true_last taken l = list_any-append (same_literal l) taken (l ∷ []) ∙ or_right (is_true taken l) (is_true (l ∷ []) l) (or_left (same_literal l l) false (same_itself l))
 
 abbrev AllTrue : List Lit → List Lit → Type 0
 AllTrue taken literals = AllByRecursion (λ l. is_true taken l ≡ true) literals

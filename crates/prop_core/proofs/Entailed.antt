@@ -82,7 +82,7 @@ open_true value taken l (x ∷ clause) all none same t =
     by false e true f later = later (rw (here, f) at same) (rw e at t)
     by false e false f later = later (both (rw (here, f) at same)).1 (rw e at t)
 
-not_falsified : (ls : List Lit) → open_standing ls ≡ falsified → ⊥
+pub not_falsified : (ls : List Lit) → open_standing ls ≡ falsified → ⊥
 not_falsified [] h = cc
 not_falsified (l ∷ ls) h = by (list_all (same_literal l) ls) h
   where
@@ -98,7 +98,7 @@ when_falsified value taken clause all h t = by (list_all (is_false taken) clause
     by false e true is = cc
     by false e false is = not_falsified (filter (is_open taken) clause) is
 
-unit_same : (l : Lit) (ls : List Lit) → open_standing ls ≡ unit l → list_all (same_literal l) ls ≡ true
+pub unit_same : (l : Lit) (ls : List Lit) → open_standing ls ≡ unit l → list_all (same_literal l) ls ≡ true
 unit_same l [] h = cc
 unit_same l (x ∷ ls) h = by (list_all (same_literal x) ls) refl h
   where

@@ -6,7 +6,6 @@ use Rattle.des_base.proofs.Elements.{all_append, all_change}
 use Rattle.prop_core.specs.Clauses.{Clause}
 use Rattle.prop_core.specs.VariableNames.{Meaning, NamedLiteral, named_clause, named_literal, with_literal, yes, meaning_of, ReadsAs, SameElements}
 use Rattle.prop_core.specs.NamedClauses.{IsCode, IsThere}
-use Rattle.prop_core.proofs.NameLemmas.{reads_more}
 
 -- ---- families that others make up
 
@@ -70,14 +69,6 @@ module _ (names : List (ℕ × Meaning)) where
           by (inl same) = inr (subst (λ j. F j named) same is)
           by (inr (inl less)) = inl (i, less, is)
           by (inr (inr more)) = absurd (omega arith)
-
--- further names change nothing
-pub code_more_names : (names more : List (ℕ × Meaning)) (F : List NamedLiteral → Type 0) (xs : List Clause) → IsCode names F xs → IsCode (names ++ more) F xs
-code_more_names names more F xs code = record {
-  all = λ named is. let there = code.all named is in (there.0, there.1, reads_more names more there.0 named named refl there.2);
-  only = all_change (λ clause. (named : List NamedLiteral) × F named × ReadsAs names clause named) (λ clause. (named : List NamedLiteral) × F named × ReadsAs (names ++ more) clause named) xs
-      (λ clause h. (h.0, h.1, reads_more names more clause h.0 h.0 refl h.2)) code.only;
-}
 
 -- clauses that are read as they stand
 pub reads_whole : (names : List (ℕ × Meaning)) (clause : Clause) (named : List NamedLiteral) → named_clause names clause ≡ Some named → ReadsAs names clause named

@@ -7,21 +7,13 @@ use Rattle.prop_core.specs.declared.lit.Lit.{Lit}
 use Rattle.prop_core.specs.Clauses.{negation, same_literal, is_true, is_false, is_open, AreConsistent}
 use Rattle.prop_core.specs.Derivation.{Standing, falsified, satisfied, unit, wide, standing, open_standing}
 use Rattle.prop_core.specs.Trail.{is_quiet, is_forced_by}
-use Rattle.prop_core.proofs.Entailed.{same_itself}
+use Rattle.prop_core.proofs.Entailed.{same_itself, unit_same, not_falsified}
 use Rattle.prop_core.proofs.Standings.{open_standing-one, list_all-filter}
 use Rattle.prop_core.proofs.Literals.{same_is, negation_twice, not_self, open_parts, open_from, true_more, all_from, all_at, any_from}
 
 -- a clause is false
 pub falsified_from : (taken c : List Lit) → list_all (is_false taken) c ≡ true → standing taken c ≡ falsified
 falsified_from taken c e = rw e
-
-not_falsified : (ls : List Lit) → open_standing ls ≡ falsified → ⊥
-not_falsified [] h = cc
-not_falsified (l ∷ ls) h = by (list_all (same_literal l) ls) h
-  where
-    by : (b : Bool) → cond b (unit l) wide ≡ falsified → ⊥
-    by true e = cc
-    by false e = cc
 
 pub falsified_parts : (taken c : List Lit) → standing taken c ≡ falsified → list_all (is_false taken) c ≡ true
 falsified_parts taken c h = by (list_all (is_false taken) c) (list_any (is_true taken) c) h
@@ -45,14 +37,6 @@ unit_first p (x ∷ c) l h = by (p x) refl (unit_first p c l)
         let q : x ≡ l = here (list_all (same_literal x) (filter p c)) (rw e at h) in
         (subst (λ (y : Lit). p y ≡ true) q e, subst (λ (y : Lit). list_any (same_literal y) (x ∷ c) ≡ true) q (let s = same_itself x in rw s refl))
     by false e later = let r = later (rw e at h) in (r.0, or_right (same_literal l x) _ r.1)
-
-unit_alone : (l : Lit) (ls : List Lit) → open_standing ls ≡ unit l → list_all (same_literal l) ls ≡ true
-unit_alone l [] h = cc
-unit_alone l (x ∷ ls) h = by (list_all (same_literal x) ls) refl h
-  where
-    by : (b : Bool) → list_all (same_literal x) ls ≡ b → cond b (unit x) wide ≡ unit l → list_all (same_literal l) (x ∷ ls) ≡ true
-    by true e is = let same : x ≡ l = cc in subst (λ y. list_all (same_literal y) (x ∷ ls) ≡ true) same (rw (same_itself x, e) refl)
-    by false e is = cc
 
 one_other : (t f s : Bool) → t ≡ false → (not (not t && not f) || s) ≡ true → (s || f) ≡ true
 one_other true f s n o = cc
@@ -80,7 +64,7 @@ unit_forces taken c l h = by (list_all (is_false taken) c) (list_any (is_true ta
     by false true f e = cc
     by false false f e =
         let first = unit_first (is_open taken) c l e in
-        let alone = sym (list_all-filter (is_open taken) (same_literal l) c) ∙ unit_alone l (filter (is_open taken) c) e in
+        let alone = sym (list_all-filter (is_open taken) (same_literal l) c) ∙ unit_same l (filter (is_open taken) c) e in
         record { alone = and_from _ _ first.1 (others_false taken c l f alone); open_now = first.0 }
 
 -- Where one literal is forced, the clause is false, or the literal is true, or the clause is unit.

@@ -1,7 +1,8 @@
 -- What reads by names reads by further names, among which they are.
-use Rattle.std.proofs.Common.{◌≡◌, ℕ, Bool, List, [], ◌∷◌, map, Option, Some, None, option_map, refl, subst, Contains}
+use Rattle.std.proofs.Common.{◌≡◌, ℕ, Bool, List, [], ◌∷◌, map, Option, Some, None, option_map, refl, subst, Contains, ◌++◌}
+use Rattle.std.proofs.lemmas.List.Elements.{Contains-append_left, Contains-append_right}
 use Rattle.std.specs.List.{AllByRecursion}
-use Rattle.des_base.proofs.Elements.{here_first, here_later, map_has, map_from, all_at, all_change, all_from}
+use Rattle.des_base.proofs.Elements.{here_first, here_later, map_has, map_from, all_at, all_change, all_from, all_append}
 use Rattle.prop_core.specs.Clauses.{Clause}
 use Rattle.prop_core.specs.FurtherNames.{LiteralOf, lifted, IsCalled, ReadsBy}
 use Rattle.prop_core.specs.VariableNames.{Meaning, NamedLiteral, ReadsAs, meaning_of, named_clause, with_literal}
@@ -58,3 +59,14 @@ reads_further {X} into names further there clause named reads = record {
 
     at : (l : Lit) (meaning : Meaning) (sign : Bool) → meaning_of names l.var ≡ Some meaning → l.positive ≡ sign → IsCalled further l (record { meaning = into meaning; positive = sign })
     at l meaning sign h same = record { named = there l.var meaning h; sign = same }
+
+-- one behind another
+pub reads_both : {X : Type 0} (names : List (ℕ × X)) (first second : List Lit) (named other : List (LiteralOf X)) → ReadsBy names first named → ReadsBy names second other → ReadsBy names (first ++ second) (named ++ other)
+reads_both {X} names first second named other one two = record {
+  only = all_append (λ l. (m : LiteralOf X) × Contains (named ++ other) m × IsCalled names l m) first second
+      (all_change (λ l. (m : LiteralOf X) × Contains named m × IsCalled names l m) (λ l. (m : LiteralOf X) × Contains (named ++ other) m × IsCalled names l m) first (λ l is. (is.0, Contains-append_left named other is.0 is.1, is.2)) one.only)
+      (all_change (λ l. (m : LiteralOf X) × Contains other m × IsCalled names l m) (λ l. (m : LiteralOf X) × Contains (named ++ other) m × IsCalled names l m) second (λ l is. (is.0, Contains-append_right named other is.0 is.1, is.2)) two.only);
+  all = all_append (λ m. (l : Lit) × Contains (first ++ second) l × IsCalled names l m) named other
+      (all_change (λ m. (l : Lit) × Contains first l × IsCalled names l m) (λ m. (l : Lit) × Contains (first ++ second) l × IsCalled names l m) named (λ m is. (is.0, Contains-append_left first second is.0 is.1, is.2)) one.all)
+      (all_change (λ m. (l : Lit) × Contains second l × IsCalled names l m) (λ m. (l : Lit) × Contains (first ++ second) l × IsCalled names l m) other (λ m is. (is.0, Contains-append_right first second is.0 is.1, is.2)) two.all);
+}

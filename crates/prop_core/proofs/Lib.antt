@@ -11,3 +11,4 @@ pub mod FamilyLemmas
 mod GridLemmas
 pub mod Premises
 pub mod Listed
+pub mod Negations

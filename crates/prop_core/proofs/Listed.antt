@@ -5,6 +5,7 @@ use Rattle.std.proofs.lemmas.List.{length-map, map-append, take_more}
 use Rattle.std.proofs.lemmas.Grind.{flat_map-append}
 use Rattle.std.proofs.lemmas.List.FromFn.{length-range_with_len, get_or-range_with_len}
 use Rattle.std.proofs.lemmas.List.Elements.{Contains-append_left, Contains-append_right, Contains-append_cases}
+use Rattle.std.proofs.lemmas.Option.{same_Some}
 use Rattle.prop_core.specs.declared.lit.Lit.{Lit}
 use Rattle.prop_core.specs.Clauses.{Clause}
 use Rattle.prop_core.specs.VariableNames.{Meaning, NamedLiteral, named_clause, named_literal, with_literal, meaning_of, HasEachOnce, ReadsAs}
@@ -12,9 +13,7 @@ use Rattle.prop_core.specs.NamedClauses.{IsThere, variable_of}
 use Rattle.prop_core.specs.Listings.{Listing, IsListed, One, Both, EachOf, Each, When, Appends, literal_by, written_by, ListedAreWritten, ListedAreEqual, ListedAreCode}
 use Rattle.prop_core.proofs.FamilyLemmas.{reads_whole}
 use Rattle.prop_core.proofs.NameLemmas.{variable_is, clause_more}
-
-some_same : {X : Type 0} (x y : X) → Some x ≡ Some y → x ≡ y
-some_same x y h = cc
+use Rattle.des_base.proofs.NumbersBelow.{range_more}
 
 head_same : {X : Type 0} (x y : X) (xs ys : List X) → x ∷ xs ≡ y ∷ ys → (x ≡ y) × (xs ≡ ys)
 head_same x y xs ys h = (cc, cc)
@@ -53,10 +52,6 @@ each_single F x = append-nil (F x)
 pub each_push : {X : Type 0} (F : X → Listing) (xs : List X) (x : X) → EachOf (xs ++ x ∷ []) F ≡ Both (EachOf xs F) (F x)
 each_push F xs x = flat_map-append F xs (x ∷ []) ∙ ap (λ ys. EachOf xs F ++ ys) (each_single F x)
 
-range_more : (a n b : ℕ) → a + n ≡ b → range_with_len a (suc n) ≡ range_with_len a n ++ b ∷ []
-range_more a zero b h = let same : a ≡ b = omega (arith, h) in ap (λ x. x ∷ []) same
-range_more a (suc n) b h = ap (λ xs. a ∷ xs) (range_more (a + 1) n b (omega (arith, h)))
-
 pub each_next : (F : ℕ → Listing) (k : ℕ) → Each (suc k) F ≡ Both (Each k F) (F k)
 each_next F k =
     let zero_first : 0 + k ≡ k = omega arith in
@@ -64,9 +59,6 @@ each_next F k =
 
 pub each_more : (F : ℕ → Listing) (k : ℕ) → Each (k + 1) F ≡ Both (Each k F) (F k)
 each_more F k = let next : suc k ≡ k + 1 = omega arith in subst (λ m. Each m F ≡ Both (Each k F) (F k)) next (each_next F k)
-
-pub listed_each_next : (names : List (ℕ × Meaning)) (F : ℕ → Listing) (k : ℕ) (xs ys : List Clause) → IsListed names (Each k F) xs → IsListed names (F k) ys → IsListed names (Each (suc k) F) (xs ++ ys)
-listed_each_next names F k xs ys first second = subst (λ list. IsListed names list (xs ++ ys)) (sym (each_next F k)) (listed_both names (Each k F) (F k) xs ys first second)
 
 pub appends_each_more : (names : List (ℕ × Meaning)) (F : ℕ → Listing) (k : ℕ) (old mid new : List Clause) → Appends names (Each k F) old mid → Appends names (F k) mid new → Appends names (Each (k + 1) F) old new
 appends_each_more names F k old mid new first second = appends_same names (Both (Each k F) (F k)) (Each (k + 1) F) old new (sym (each_more F k)) (appends_both names (Each k F) (F k) old mid new first second)
@@ -128,13 +120,13 @@ literal_written names once l m h =
     let var : l.var ≡ unwrap_or (variable_of names m.meaning) 0 = sym (ap (λ o. unwrap_or o 0) (variable_is names once l.var m.meaning is.0)) in
     λ i. record { var = var i; positive = is.1 i }
 
-read_parts : (o : Option NamedLiteral) (r : Option (List NamedLiteral)) (read : List NamedLiteral) → with_literal o r ≡ Some read → (x : NamedLiteral) × (xs : List NamedLiteral) × (o ≡ Some x) × (r ≡ Some xs) × (read ≡ x ∷ xs)
+pub read_parts : (o : Option NamedLiteral) (r : Option (List NamedLiteral)) (read : List NamedLiteral) → with_literal o r ≡ Some read → (x : NamedLiteral) × (xs : List NamedLiteral) × (o ≡ Some x) × (r ≡ Some xs) × (read ≡ x ∷ xs)
 read_parts None r read h = cc
 read_parts (Some x) None read h = cc
 read_parts (Some x) (Some xs) read h = let same : read ≡ x ∷ xs = cc in (x, xs, refl, refl, same)
 
 pub clause_written : (names : List (ℕ × Meaning)) → HasEachOnce names → (clause : Clause) (read : List NamedLiteral) → named_clause names clause ≡ Some read → clause ≡ map (literal_by names) read
-clause_written names once [] read h = ap (map (literal_by names)) (some_same [] read h)
+clause_written names once [] read h = ap (map (literal_by names)) (same_Some [] read h)
 clause_written names once (l ∷ clause) read h =
     let x = read_parts (named_literal names l) (named_clause names clause) read h in
     let here : l ≡ literal_by names x.0 = literal_written names once l x.0 x.2 in

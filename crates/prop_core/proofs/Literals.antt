@@ -27,12 +27,6 @@ same_is a b e =
 pub literal_is : (a b : Lit) → a.var ≡ b.var → a.positive ≡ b.positive → a ≡ b
 literal_is a b v p = ap (λ (n : ℕ). literal_of n a.positive) v ∙ ap (literal_of b.var) p
 
-beq_back : (a b : Bool) → beq a b ≡ beq b a
-beq_back true true = refl
-beq_back true false = refl
-beq_back false true = refl
-beq_back false false = refl
-
 pub same_back : (a b : Lit) → same_literal a b ≡ same_literal b a
 same_back a b = by (same_literal a b) refl (same_literal b a) refl
   where
@@ -123,6 +117,9 @@ below_from n c h = All-from_get_or (λ (l : Lit). l.var < n) c no_literal (λ i 
 
 pub below_var : (n : ℕ) (c : List Lit) (v : ℕ) → HasValues n c → has_var v c ≡ true → v < n
 below_var n c v h e = let x = has_back c v e in subst (λ (k : ℕ). k < n) x.1.var (below_at n c x.0 h x.1.among)
+
+pub wider : (n more : ℕ) (c : List Lit) → n ≤ more → HasValues n c → HasValues more c
+wider n more c h b k inside = let below = b k inside in omega (arith, below, h)
 
 -- one more literal is taken as true
 pub true_more : (taken : List Lit) (l k : Lit) → is_true (taken ++ l ∷ []) k ≡ (is_true taken k || same_literal k l)

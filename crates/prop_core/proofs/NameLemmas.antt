@@ -3,6 +3,8 @@ use Rattle.std.proofs.Common.{◌≡◌, ◌≢◌, ℕ, zero, suc, ◌∙◌, B
 use Rattle.std.specs.Bool.{beq}
 use Rattle.std.specs.List.{AllByRecursion, list_any}
 use Rattle.std.proofs.lemmas.Bool.{and_parts, eqb-true, eq-eqb, false_from_ne_true}
+use Rattle.std.proofs.lemmas.Option.{same_Some}
+pub use Rattle.std.proofs.lemmas.Option.{same_Some as some_literal}
 use Rattle.des_base.proofs.BoolLemmas.{itself}
 use Rattle.des_base.proofs.Elements.{all_at}
 use Rattle.prop_core.specs.declared.lit.Lit.{Lit}
@@ -37,10 +39,6 @@ clause_more names more (l ∷ clause) read h = by (named_literal names l) refl (
     by (Some m) e None f later is = cc
     by (Some m) e (Some rest) f later is = rw (literal_more names more l m e, later rest f) is
 
-pub reads_more : (names more : List (ℕ × Meaning)) (clause : Clause) (named other : List NamedLiteral) → named ≡ other → ReadsAs names clause named → ReadsAs (names ++ more) clause other
-reads_more names more clause named other same reads =
-    subst (λ ns. ReadsAs (names ++ more) clause ns) same (record { read = reads.read; by_name = clause_more names more clause reads.read reads.by_name; same = reads.same })
-
 -- ---- truth
 
 pub sign_is : (a b : Bool) → beq a b ≡ same_sign b a
@@ -49,9 +47,6 @@ sign_is true false = refl
 sign_is false true = refl
 sign_is false false = refl
 
-pub some_literal : (a b : NamedLiteral) → Some a ≡ Some b → a ≡ b
-some_literal a b h = cc
-
 -- a literal that reads as another has its truth
 pub literal_is : (names : List (ℕ × Meaning)) (assignment : ℕ → Bool) (value : Meaning → Bool) (l : Lit) (m : NamedLiteral) → Match names assignment value → named_literal names l ≡ Some m → literal_true assignment l ≡ named_true value m
 literal_is names assignment value l m match h = by (meaning_of names l.var) refl h
@@ -59,7 +54,7 @@ literal_is names assignment value l m match h = by (meaning_of names l.var) refl
     by : (o : Option Meaning) → meaning_of names l.var ≡ o → option_map (λ (meaning : Meaning). record { meaning = meaning; positive = l.positive }) o ≡ Some m → literal_true assignment l ≡ named_true value m
     by None e is = cc
     by (Some meaning) e is =
-        subst (λ x. literal_true assignment l ≡ named_true value x) (some_literal (record { meaning = meaning; positive = l.positive }) m is)
+        subst (λ x. literal_true assignment l ≡ named_true value x) (same_Some (record { meaning = meaning; positive = l.positive }) m is)
         (sign_is (assignment l.var) l.positive ∙ ap (same_sign l.positive) (match l.var meaning e))
 
 equal2 : (a b c d : ℕ) → (a == b) && (c == d) ≡ true → (a ≡ b) × (c ≡ d)

@@ -1,17 +1,12 @@
 -- The place of an alarm in an order, and what one more alarm at the order's end leaves of it.
 use Rattle.std.proofs.Common.{◌≡◌, ◌≢◌, ℕ, suc, ◌+◌, ◌<◌, Bool, true, false, cond, not, ◌||◌, List, [], ◌∷◌, ◌++◌, length, Option, None, Some, refl, arith, ap, sym, ◌∙◌, subst, get_or, get_or-set_same, get_or-set_other}
+use Rattle.std.proofs.Math.Bool.{or-false}
 use Rattle.std.specs.Prelude.{◌==◌, slice_set}
 use Rattle.des_base.proofs.BoolLemmas.{same, itself}
 use Rattle.log_order.proofs.MarkLemmas.{in-push}
 use Rattle.log_order.specs.Log.{place_in}
 use Rattle.log_order.specs.Precedence.{is_in}
 use Rattle.replay.specs.Placed.{place_of_alarm}
-
--- ---- being there
-
-last_step : (a : Bool) → (a || false) ≡ a
-last_step true = refl
-last_step false = refl
 
 -- ---- the place
 
@@ -44,7 +39,7 @@ place_new order y fresh =
 
 place_kept : (order : List ℕ) (y i : ℕ) → (y == i) ≡ false → place_of_alarm (order ++ y ∷ []) i ≡ place_of_alarm order i
 place_kept order y i other =
-    ap (λ b. cond b (Some (place_in (order ++ y ∷ []) i)) None) (in-push order y i ∙ ap (λ b. is_in order i || b) other ∙ last_step (is_in order i)) ∙ by (is_in order i) refl
+    ap (λ b. cond b (Some (place_in (order ++ y ∷ []) i)) None) (in-push order y i ∙ ap (λ b. is_in order i || b) other ∙ or-false (is_in order i)) ∙ by (is_in order i) refl
   where
     by : (b : Bool) → is_in order i ≡ b → cond b (Some (place_in (order ++ y ∷ []) i)) None ≡ cond b (Some (place_in order i)) None
     by true e = ap Some (place-push_old order y i e)

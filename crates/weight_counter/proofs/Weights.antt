@@ -1,13 +1,14 @@
 -- The clauses of a weighted counter are exact.
-use Rattle.std.proofs.Common.{◌≡◌, ◌↔◌, ◌∙◌, ◌⊎◌, inl, inr, ℕ, zero, suc, ◌+◌, ◌-◌, ◌<◌, ◌≤◌, Bool, true, false, not, ◌||◌, List, [], ◌∷◌, length, Some, refl, sym, ap, subst, arith, slice_get, Contains, IsTrue, take, cond, sum_by}
+use Rattle.std.proofs.Common.{◌≡◌, ◌∙◌, ◌⊎◌, inl, inr, ℕ, zero, suc, ◌+◌, ◌-◌, ◌<◌, ◌≤◌, Bool, true, false, ◌||◌, List, [], ◌∷◌, length, Some, refl, sym, ap, subst, arith, slice_get, IsTrue, take, cond, sum_by}
 use Rattle.std.specs.Bool.{beq}
 use Rattle.std.proofs.lemmas.Bool.{cases_lt}
 use Rattle.std.proofs.lemmas.List.Sums.{sum_by-cons}
 use Rattle.des_base.proofs.Elements.{all_from, all_at, some_at}
+use Rattle.des_base.proofs.BoolLemmas.{beq_true}
 use Rattle.prop_core.specs.Clauses.{Clause, negation, literal_true, clause_true, AllClausesTrue}
-use Rattle.prop_core.specs.declared.lit.Lit.{Lit}
 use Rattle.weight_counter.specs.declared.weighted.Weighted.{Weighted}
 use Rattle.weight_counter.specs.Weighing.{WeightClause, weighs_on, weighs_alone, weighs_up, weight_clause, IsWeightClause, AreWeightClauses, WeightsAreReached, TellsWeights, WeightsAreTrue}
+use Rattle.prop_core.proofs.Premises.{without_literal, with_literal_false, last_literal, last_literal_true}
 
 -- one more input
 pub weight_more : (f : Weighted → ℕ) (xs : List Weighted) (i : ℕ) (x : Weighted) → slice_get xs i ≡ Some x → sum_by f (take (suc i) xs) ≡ sum_by f (take i xs) + f x
@@ -30,31 +31,6 @@ within (y ∷ xs) (suc i) x h = let rest = within xs i x h in omega arith
 
 -- ---- clauses as rules
 
-beq_true : (b : Bool) → beq b true ≡ b
-beq_true true = refl
-beq_true false = refl
-
--- a negation before the rest
-drop_first : (a b c : Bool) → beq a (not b) || c ≡ true → beq a b ≡ true → c ≡ true
-drop_first true true c h e = h
-drop_first true false c h e = cc
-drop_first false true c h e = cc
-drop_first false false c h e = h
-
-put_first : (a b c : Bool) → (beq a b ≡ true → c ≡ true) → beq a (not b) || c ≡ true
-put_first true true c h = h refl
-put_first true false c h = refl
-put_first false true c h = refl
-put_first false false c h = h refl
-
-last_true : (b : Bool) → beq b true || false ≡ true → b ≡ true
-last_true true h = refl
-last_true false h = cc
-
-true_last : (b : Bool) → b ≡ true → beq b true || false ≡ true
-true_last true h = refl
-true_last false h = cc
-
 module _ (at : ℕ → ℕ → ℕ) (inputs : List Weighted) (most : ℕ) (value : ℕ → Bool) where
   on : (x : Weighted) → literal_true value x.input ≡ true → cond (literal_true value x.input) x.weight 0 ≡ x.weight
   on x is = ap (λ b. cond b x.weight 0) is
@@ -75,14 +51,14 @@ module _ (at : ℕ → ℕ → ℕ) (inputs : List Weighted) (most : ℕ) (value
   rules_of clauses are all = record {
     kept = λ i j inside few is.
         let clause = all_at (λ c. IsTrue (clause_true value c)) clauses (weight_clause at (weighs_on i j)) all (are.all (weighs_on i j) (inside, few)) in
-        last_true (value (at (suc i) j)) (drop_first (value (at i j)) true (beq (value (at (suc i) j)) true || false) clause (beq_true (value (at i j)) ∙ is));
+        last_literal (value (at (suc i) j)) (without_literal (value (at i j)) true (beq (value (at (suc i) j)) true || false) clause (beq_true (value (at i j)) ∙ is));
     alone = λ i j x is less few on'.
         let clause = all_at (λ c. IsTrue (clause_true value c)) clauses (weight_clause at (weighs_alone i j x.input)) all (are.all (weighs_alone i j x.input) (x.weight, is, less, few)) in
-        last_true (value (at i j)) (drop_first (value x.input.var) x.input.positive (beq (value (at i j)) true || false) clause on');
+        last_literal (value (at i j)) (without_literal (value x.input.var) x.input.positive (beq (value (at i j)) true || false) clause on');
     up = λ i j x is few on' before.
         let clause = all_at (λ c. IsTrue (clause_true value c)) clauses (weight_clause at (weighs_up i j x.weight x.input)) all (are.all (weighs_up i j x.weight x.input) (is, few)) in
-        last_true (value (at (suc i) (j + x.weight))) (drop_first (value x.input.var) x.input.positive (beq (value (at (suc i) (j + x.weight))) true || false)
-        (drop_first (value (at i j)) true (literal_true value (negation x.input) || (beq (value (at (suc i) (j + x.weight))) true || false)) clause (beq_true (value (at i j)) ∙ before)) on');
+        last_literal (value (at (suc i) (j + x.weight))) (without_literal (value x.input.var) x.input.positive (beq (value (at (suc i) (j + x.weight))) true || false)
+        (without_literal (value (at i j)) true (literal_true value (negation x.input) || (beq (value (at (suc i) (j + x.weight))) true || false)) clause (beq_true (value (at i j)) ∙ before)) on');
   }
 
   reached : Rules → (i j : ℕ) → i < length inputs → j < most → suc j ≤ sum_by weight_of (take (suc i) inputs) → value (at i j) ≡ true
@@ -121,23 +97,23 @@ module _ (at : ℕ → ℕ → ℕ) (inputs : List Weighted) (most : ℕ) (value
 
   said : TellsWeights at inputs most value → (which : WeightClause) → IsWeightClause inputs most which → IsTrue (clause_true value (weight_clause at which))
   said tells (weighs_on i j) (inside, few) =
-      put_first (value (at i j)) true (beq (value (at (suc i) j)) true || false) (λ is.
-      true_last (value (at (suc i) j)) ((tells (suc i) j inside few).1
+      with_literal_false (value (at i j)) true (beq (value (at (suc i) j)) true || false) (λ is.
+      last_literal_true (value (at (suc i) j)) ((tells (suc i) j inside few).1
       (let low = (tells i j (omega (arith, inside)) few).0 (sym (beq_true (value (at i j))) ∙ is) in
       let x = some_at inputs (suc i) inside in
       let sum = weight_more weight_of inputs (suc i) x.0 x.1 in
       omega (arith, low, sum))))
   said tells (weighs_alone i j x) (weight, is, less, few) =
-      put_first (value x.var) x.positive (beq (value (at i j)) true || false) (λ e.
-      true_last (value (at i j)) ((tells i j (within inputs i (record { input = x; weight = weight }) is) few).1
+      with_literal_false (value x.var) x.positive (beq (value (at i j)) true || false) (λ e.
+      last_literal_true (value (at i j)) ((tells i j (within inputs i (record { input = x; weight = weight }) is) few).1
       (let sum = weight_more weight_of inputs i (record { input = x; weight = weight }) is in
       let here = on (record { input = x; weight = weight }) e in
       omega (arith, sum, here, less))))
   said tells (weighs_up i j weight x) (is, few) =
       let inside = within inputs (suc i) (record { input = x; weight = weight }) is in
-      put_first (value (at i j)) true (literal_true value (negation x) || (beq (value (at (suc i) (j + weight))) true || false)) (λ before.
-      put_first (value x.var) x.positive (beq (value (at (suc i) (j + weight))) true || false) (λ e.
-      true_last (value (at (suc i) (j + weight))) ((tells (suc i) (j + weight) inside few).1
+      with_literal_false (value (at i j)) true (literal_true value (negation x) || (beq (value (at (suc i) (j + weight))) true || false)) (λ before.
+      with_literal_false (value x.var) x.positive (beq (value (at (suc i) (j + weight))) true || false) (λ e.
+      last_literal_true (value (at (suc i) (j + weight))) ((tells (suc i) (j + weight) inside few).1
       (let low = (tells i j (omega (arith, inside)) (omega (arith, few))).0 (sym (beq_true (value (at i j))) ∙ before) in
       let sum = weight_more weight_of inputs (suc i) (record { input = x; weight = weight }) is in
       let here = on (record { input = x; weight = weight }) e in

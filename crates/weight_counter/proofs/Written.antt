@@ -1,17 +1,15 @@
 -- The clauses that a scale writes, one after another, are those of its inputs.
 use Rattle.std.proofs.Common.{◌≡◌, ◌⊎◌, inl, inr, ◌∙◌, ℕ, zero, suc, ◌+◌, ◌-◌, ◌*◌, ◌<◌, ◌≤◌, min, List, [], ◌∷◌, ◌++◌, length, map, take, Some, refl, sym, ap, subst, arith, slice_get, Contains, append_assoc, append-nil}
-use Rattle.std.specs.List.{AllByRecursion}
 use Rattle.std.proofs.lemmas.List.Elements.{Contains-append_left, Contains-append_right, Contains-append_cases}
 use Rattle.std.proofs.Math.Nat.{suc-mul}
 use Rattle.des_base.specs.Lists.{numbers_below}
-use Rattle.des_base.proofs.Elements.{all_from, some_at, none_in_nil}
+use Rattle.des_base.proofs.Elements.{all_from, some_at, none_in_nil, take_push}
 use Rattle.des_base.proofs.NumbersBelow.{map_numbers_more}
-use Rattle.card_counter.proofs.ListLemmas.{map_contains, map_of, take_more}
+use Rattle.card_counter.proofs.ListLemmas.{map_contains, map_of}
 use Rattle.card_counter.proofs.PlaceLemmas.{adds_both}
 use Rattle.card_counter.specs.Growing.{AddsWithin}
 use Rattle.prop_core.specs.ClauseStore.{ClauseStore}
 use Rattle.prop_core.specs.Clauses.{Clause}
-use Rattle.weight_counter.specs.declared.scale.Scale.{Scale}
 use Rattle.weight_counter.specs.declared.weighted.Weighted.{Weighted}
 use Rattle.weight_counter.specs.Weighing.{WeightClause, weighs_on, weighs_alone, weighs_up, weight_clause, IsWeightClause, AreWeightClauses}
 use Rattle.weight_counter.specs.Scales.{place_variable, kept_clause, alone_clause, raised_clause, kept_before, alone_at, raised_at, weight_clauses, clauses_from, scale_clauses, ScalesAreExact}
@@ -139,10 +137,6 @@ adds_more f old mid new j k so_far adds =
     times zero a = omega arith
     times (suc n) a = omega (arith, times n a, suc-mul n (a + 1), suc-mul n a)
 
--- no clause
-pub adds_nothing : (store : ClauseStore) (m n : ℕ) → AddsWithin store [] m n store
-adds_nothing store m n = record { added = sym (append-nil store.clauses); clauses = omega arith; literals = omega arith }
-
 length_front : (xs : List Weighted) (k : ℕ) (x : Weighted) → slice_get xs k ≡ Some x → length (take k xs) ≡ k
 length_front [] k x h = cc
 length_front (y ∷ xs) zero x h = refl
@@ -157,12 +151,6 @@ adds_input at amounts inputs old mid new k x is so_far adds =
     let size : (k + 1) * amounts ≡ k * amounts + amounts = subst (λ n. n * amounts ≡ k * amounts + amounts) next (let more = suc-mul k amounts in omega (arith, more)) in
     let place : 0 + length (take k inputs) ≡ k = omega (arith, length_front inputs k x is) in
     let list : scale_clauses at amounts (take (k + 1) inputs) ≡ scale_clauses at amounts (take k inputs) ++ weight_clauses at amounts k x =
-    ap (λ n. scale_clauses at amounts (take n inputs)) (sym next) ∙ ap (scale_clauses at amounts) (take_more inputs k x is) ∙ clauses_push at amounts 0 (take k inputs) x k place in
+    ap (λ n. scale_clauses at amounts (take n inputs)) (sym next) ∙ ap (scale_clauses at amounts) (take_push inputs k x is) ∙ clauses_push at amounts 0 (take k inputs) x k place in
     subst (λ cs. AddsWithin old cs (2 * ((k + 1) * amounts)) (5 * ((k + 1) * amounts)) new) (sym list)
     (adds_both old mid new (scale_clauses at amounts (take k inputs)) (weight_clauses at amounts k x) (2 * (k * amounts)) (5 * (k * amounts)) (2 * amounts) (5 * amounts) (2 * ((k + 1) * amounts)) (5 * ((k + 1) * amounts)) so_far adds (omega (arith, size)) (omega (arith, size)))
-
--- the clauses of one input
-pub adds_three : (old one two new : ClauseStore) (xs ys zs : List Clause) (w a : ℕ) → AddsWithin old xs a (2 * a) one → AddsWithin one ys (min w a) (2 * min w a) two → AddsWithin two zs (a - w) (3 * (a - w)) new → AddsWithin old (xs ++ (ys ++ zs)) (2 * a) (5 * a) new
-adds_three old one two new xs ys zs w a first second third =
-    let both = adds_both one two new ys zs (min w a) (2 * min w a) (a - w) (3 * (a - w)) a (3 * a) second third (omega arith) (omega arith) in
-    adds_both old one new xs (ys ++ zs) a (2 * a) a (3 * a) (2 * a) (5 * a) first both (omega arith) (omega arith)
