@@ -1,5 +1,5 @@
 -- What a session keeps once an addition is made, and where it isn't.
-use Rattle.std.proofs.Common.{◌≡◌, ◌∙◌, ℕ, ◌≤◌, true, false, cond, Option, None, Some, Result, Ok, Err, OnErr, refl, sym, ap, subst}
+use Rattle.std.proofs.Common.{◌≡◌, ◌∙◌, ℕ, ◌≤◌, true, false, cond, Option, None, Some, refl, sym, ap, subst}
 use Rattle.alarm_session.proofs.Keeping.{Codes, adds_none, belong_roomy, belong_with, few_with, old_pair, paired, time_roomy, time_with}
 use Rattle.alarm_session.specs.Additions.{built_on, pair_addition}
 use Rattle.alarm_session.specs.Session.{Becomes, IsDraftedFor, IsFor, IsRankedKept, Stage, stage_of}
@@ -89,11 +89,6 @@ stage_roomy kept mid mid_book log size room same =
     let built = room_roomless kept.parts mid kept.book.entries mid_book.entries room in
     let book = room.book in
     λ i. record { log = same i; built = built i; book = book i }
-
--- whatever is told of it
-pub on_err : {X E : Type 0} (r : Result X E) (P : Type 0) → P → OnErr r P
-on_err (Ok x) P p = tt
-on_err (Err e) P p = p
 
 -- ---- a pair
 

@@ -26,6 +26,7 @@ use Rattle.prop_core.specs.declared.grid.Grid.{Grid}
 use Rattle.replay.specs.QuestionSize.{question_size}
 use Rattle.run_decode.specs.QuestionAxioms.{BuiltQuestion}
 use Rattle.step_encode.specs.Coded.{CodedSteps}
+use Rattle.log_order.proofs.KeptLemmas.{with_pair-new}
 
 -- ---- a log with an addition, and the coded one
 
@@ -42,14 +43,11 @@ alarm_codes log coded name labels doubtful is =
 abbrev pub paired : Log → ℕ → ℕ → Log
 paired log i j = record log { pairs = with_pair log.pairs i j }
 
-new_pair : (pairs : List (ℕ × ℕ)) (i j : ℕ) → has_pair pairs i j ≡ false → with_pair pairs i j ≡ pairs ++ (i, j) ∷ []
-new_pair pairs i j new = ap (λ b. cond b pairs (pairs ++ (i, j) ∷ [])) new
-
 pub old_pair : (log : Log) (i j : ℕ) → has_pair log.pairs i j ≡ true → paired log i j ≡ log
 old_pair log i j there = ap (λ b. let l : Log = record log { pairs = cond b log.pairs (log.pairs ++ (i, j) ∷ []) } in l) there
 
 pub paired_is : (log : Log) (i j : ℕ) → has_pair log.pairs i j ≡ false → paired log i j ≡ with_addition log (pair_added i j)
-paired_is log i j new = ap (λ (pairs : List (ℕ × ℕ)). let l : Log = record log { pairs = pairs } in l) (new_pair log.pairs i j new)
+paired_is log i j new = ap (λ (pairs : List (ℕ × ℕ)). let l : Log = record log { pairs = pairs } in l) (with_pair-new log.pairs i j new)
 
 pub pair_codes : (log coded : Log) (i j : ℕ) → has_pair log.pairs i j ≡ false → coded ≡ without_names log → Codes coded (pair_added i j) (paired log i j)
 pair_codes log coded i j new is = ap without_names (paired_is log i j new) ∙ sym (ap (λ (l : Log). with_addition l (pair_added i j)) is)

@@ -4,7 +4,7 @@ use Rattle.alarm_session.proofs.Keeping.{adds_none}
 use Rattle.alarm_session.specs.Additions.{built_on}
 use Rattle.alarm_session.specs.Refusals.{refusal_of_alarm, refusal_of_before, is_new_pair, log_with, numbers_of}
 use Rattle.alarm_session.specs.Rows.{AreRowsTold, HasCarriedOut, IsLeftUndone, IsRowTold, after_row, built_after, built_with_row, log_after_rows, row_addition, row_refusal, rows_built, told_by, with_row}
-use Rattle.alarm_session.specs.Session.{Becomes, KeepsLog, IsSessionBook, IsToldBy, Stage, first_stage}
+use Rattle.alarm_session.specs.Session.{Becomes, IsSessionBook, Stage, first_stage}
 use Rattle.alarm_session.specs.declared.refusal.SessionRefusal.{SessionRefusal}
 use Rattle.alarm_session.specs.declared.refusal.SessionRefusal.TheVariants.{Double, Unknown, Cycle, NoLabels, Limit, TooLarge, Memory}
 use Rattle.alarm_session.specs.declared.rows.Told.{Told}
@@ -14,7 +14,6 @@ use Rattle.des_base.specs.Refusing.{SucceedsUnless}
 use Rattle.des_base.specs.declared.memory.Memory.{Memory as NoMemory}
 use Rattle.des_net.specs.Network.{Net}
 use Rattle.least_faults.proofs.Freshness.{fresh_none}
-use Rattle.least_faults.specs.declared.answer.Found.{Found}
 use Rattle.log_csv.specs.declared.row.Row.{Row}
 use Rattle.log_csv.specs.declared.row.Row.TheVariants.{Alarm, Maybe, Before, Ask}
 use Rattle.log_order.specs.Adding.{with_alarm, with_texts}
@@ -149,19 +148,6 @@ module _ (net : Net) (n budget : ℕ) (old : Stage) (row : Row) (new : Stage) wh
       by_cases (Err Limit) same = tt
       by_cases (Err (TooLarge size)) same = tt
       by_cases (Err Memory) same = left same book
-
-  -- a question
-  pub question_told : (found : Found) → row ≡ Ask → KeepsLog budget old new → IsToldBy net n budget old new found → IsSessionBook net n new → IsRowTold net n budget old row new (Answered found)
-  question_told found ask goes told book = record {
-    tells = record { question = ask; told = told };
-    log = goes.log ∙ sym (ap (after_row net n old.log) ask);
-    columns = goes.columns;
-    built = goes.built ∙ sym (ap (λ r. built_after net n old.log old.built r goes.columns) ask);
-    book = book;
-  }
-
-  pub question_undone : row ≡ Ask → KeepsLog budget old new → IsSessionBook net n new → IsLeftUndone net n budget old row new
-  question_undone ask goes book = record { goes_on = goes; addition = λ other. absurd (other ask); book = book }
 
   -- the book goes on
   pub row_extends : (told : Told) → IsRowTold net n budget old row new told → Extends old.book new.book

@@ -1,6 +1,5 @@
 -- The size of a question whose log gets an alarm or a pair more, and that the names of alarms don't matter for it.
 use Rattle.std.proofs.Common.{◌≡◌, ◌∙◌, ℕ, zero, suc, ◌+◌, ◌*◌, ◌^◌, Bool, cond, List, [], ◌∷◌, ◌++◌, length, map, count_by, sum_by, refl, sym, ap, arith, length-append, option_map, slice_get, unwrap_or}
-use Rattle.std.proofs.Math.Nat.{one-mul, pow-suc, pow-zero}
 use Rattle.alarm_session.specs.Labelled.{labelled_count}
 use Rattle.des_base.specs.Lists.{numbers_below}
 use Rattle.des_net.specs.Network.{Net}
@@ -13,9 +12,7 @@ use Rattle.log_encode.specs.CodedLog.{nameless, without_names}
 use Rattle.log_order.specs.Log.{Log, Alarm, an_alarm}
 use Rattle.replay.specs.QuestionSize.{alarm_sizes, doubtful_count, matching_count, question_size}
 use Rattle.run_decode.proofs.Nameless.{nameless_doubtful}
-
-square : (m : ℕ) → m ^ 2 ≡ m * m
-square m = pow-suc m 1 ∙ ap (λ k. k * m) (pow-suc m 0 ∙ ap (λ k. k * m) (pow-zero m) ∙ one-mul m)
+use Rattle.des_base.proofs.Powers.{square}
 
 -- ---- an alarm
 

@@ -6,7 +6,7 @@ use Rattle.card_counter.specs.CounterState.{CounterState, negative}
 use Rattle.des_base.proofs.Elements.{all_split, here_first}
 use Rattle.des_net.specs.Network.{Net, IsNetwork}
 use Rattle.least_faults.proofs.Asked.{true_run}
-use Rattle.least_faults.proofs.Assuming.{below_more, compatible, negates_only, without_bound}
+use Rattle.least_faults.proofs.Assuming.{compatible, negates_only, without_bound}
 use Rattle.least_faults.proofs.Below.{names_below, read_below}
 use Rattle.least_faults.proofs.Entailing.{final_entailed}
 use Rattle.least_faults.proofs.Putting.{derived_unmarked, same_axioms, same_last}
@@ -40,6 +40,7 @@ use Rattle.cost_least.specs.Searching.{MayBound}
 use Rattle.cost_least.specs.Weighed.{AreWeighedParts, log_guards, assumed_at}
 use Rattle.cost_least.specs.declared.answer.Priced.{Priced}
 use Rattle.cost_least.specs.declared.asking.Asked.TheVariants.{Explained, Refuted, Spent}
+use Rattle.prop_core.proofs.Literals.{wider}
 
 -- ---- what is assumed
 
@@ -64,7 +65,7 @@ module _ (cost : ℕ → ℕ) (steps : CodedSteps) (code : CodedLog) (counter : 
       read_below scale.first (whole_meanings steps code counter) (log_guards code) assumes.read (names_below steps code counter scale.first parts.own parts.coded) assumes.by_name
 
   guards_below : HasValues vars (log_guards code)
-  guards_below = below_more scale.first vars (log_guards code) first_within guards_before
+  guards_below = wider scale.first vars (log_guards code) first_within guards_before
 
   limit_below : (bound : Option ℕ) → IfSome bound (MayBound scale) → HasValues vars (cost_limit scale bound)
   limit_below None may = All-nil (λ (l : Lit). l.var < vars)
@@ -76,7 +77,7 @@ module _ (cost : ℕ → ℕ) (steps : CodedSteps) (code : CodedLog) (counter : 
 
   pub assumed_known : (values : ℕ) → vars ≤ values → (bound : Option ℕ) → IfSome bound (MayBound scale) → HasValues values (assumed_at code scale bound)
   assumed_known values enough bound may =
-      below_more vars values (assumed_at code scale bound) enough (All-append (λ (l : Lit). l.var < vars) (log_guards code) (cost_limit scale bound) guards_below (limit_below bound may))
+      wider vars values (assumed_at code scale bound) enough (All-append (λ (l : Lit). l.var < vars) (log_guards code) (cost_limit scale bound) guards_below (limit_below bound may))
 
   -- ---- a model
 

@@ -1,7 +1,6 @@
 -- What a question of costs tells, and what its answers mean.
-use Rattle.std.proofs.Common.{◌≡◌, ◌∙◌, ◌⊎◌, inl, inr, ℕ, suc, ◌+◌, ◌-◌, ◌<◌, ◌≤◌, Bool, true, false, List, length, Option, Some, None, ap, subst, arith, take, take_all}
+use Rattle.std.proofs.Common.{◌≡◌, ◌∙◌, ◌⊎◌, inl, inr, ℕ, suc, ◌+◌, ◌-◌, ◌<◌, ◌≤◌, Bool, true, List, length, Option, Some, None, ap, subst, arith, take, take_all}
 use Rattle.std.specs.Prelude.{IfSome, min}
-use Rattle.std.specs.Bool.{beq}
 use Rattle.std.proofs.lemmas.Bool.{cases_lt}
 use Rattle.card_counter.specs.CounterState.{CounterState, negative}
 use Rattle.des_net.specs.Network.{IsNetwork}
@@ -29,6 +28,7 @@ use Rattle.cost_least.specs.Pricing.{ExplainsAt, PosesCosts}
 use Rattle.cost_least.specs.Searching.{MayBound, CostsAreRuledOut}
 use Rattle.cost_least.specs.Weighed.{AreWeighedParts, log_guards, assumed_at}
 use Rattle.cost_least.specs.declared.answer.Priced.{Priced}
+use Rattle.prop_core.proofs.Premises.{negated}
 
 -- without a bound, and within one that may be asked for
 pub told_at : (cost : ℕ → ℕ) (steps : CodedSteps) (code : CodedLog) (counter : CounterState) (vars : ℕ) (axioms : List Clause) (scale : Scale) (log : Log) → AreWeighedParts cost steps code counter vars axioms scale →
@@ -47,10 +47,6 @@ costs_are_ruled_out q (Some b) axioms assumed clause told entails negates = λ w
     by word order explains (inl more) = omega (arith, more)
     by word order explains (inr less) = absurd (told_is_refuted (ExplainsAt q.net q.cost q.log q.steps (Some b)) axioms assumed clause told.tells entails negates word order (explains, less))
 
-low : (b : Bool) → beq b false ≡ true → b ≡ true → ⊥
-low true h k = cc
-low false h k = cc
-
 -- where the literal for at most b is true, the inputs weigh no more
 pub within_limit : (scale : Scale) (inputs : List Weighted) (clauses : List Clause) (value : ℕ → Bool) (b : ℕ) → AreWeightClauses (place_variable scale) inputs scale.amounts clauses → AllClausesTrue value clauses → scale.inputs ≡ length inputs →
     MayBound scale b → literal_true value (negative (place_variable scale (scale.inputs - 1) b)) ≡ true → weight_true value inputs ≤ b
@@ -64,7 +60,7 @@ within_limit scale inputs clauses value b are all counted may limit = by (cases_
         let last : suc (scale.inputs - 1) ≡ length inputs = omega (arith, counted, some) in
         let whole : weight_true value (take (suc (scale.inputs - 1)) inputs) ≡ weight_true value inputs = ap (λ k. weight_true value (take k inputs)) last ∙ ap (weight_true value) (take_all (length inputs) inputs (omega arith)) in
         let on = weights_are_reached (place_variable scale) inputs scale.amounts clauses value are all (scale.inputs - 1) b (omega (arith, counted, some)) few (omega (arith, whole, more)) in
-        absurd (low (value (place_variable scale (scale.inputs - 1) b)) limit on)
+        absurd (negated (value (place_variable scale (scale.inputs - 1) b)) limit on)
 
 -- ---- where the search ends
 

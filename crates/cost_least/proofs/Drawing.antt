@@ -2,9 +2,10 @@
 use Rattle.std.proofs.Common.{◌≡◌, ◌≢◌, ◌∙◌, ◌⊎◌, inl, inr, ℕ, zero, suc, ◌+◌, ◌-◌, ◌<◌, not, List, [], ◌∷◌, ◌++◌, length, map, flat_map, Option, None, Some, refl, sym, ap, subst, arith, append-nil, Contains}
 use Rattle.std.specs.List.{AllZip}
 use Rattle.std.proofs.lemmas.List.Elements.{Contains-append_left as append_left, Contains-append_right as append_right}
+use Rattle.std.proofs.lemmas.Option.{none-some}
 use Rattle.card_counter.proofs.ListLemmas.{flat_contains, flat_of, map_contains, map_of, pairs_flat, pairs_map}
 use Rattle.card_counter.specs.CounterState.{negative, positive}
-use Rattle.des_base.proofs.Elements.{all_append, all_change, all_from, cons_cases, here_first, here_later, map_from, map_has, none_in_nil}
+use Rattle.des_base.proofs.Elements.{all_change, all_from, cons_cases, here_first, here_later, map_from, map_has, none_in_nil}
 use Rattle.des_base.specs.Lists.{numbers_below}
 use Rattle.des_net.specs.Network.{Net}
 use Rattle.event_costs.specs.declared.TheConstants.{MOST_COST}
@@ -27,6 +28,7 @@ use Rattle.weight_counter.specs.declared.weighted.Weighted.{Weighted}
 use Rattle.cost_least.proofs.Inputs.{same_length, named_at}
 use Rattle.cost_least.specs.Drawn.{CostMeaning, of_question, weighs, NamedWeighing, keeps_weight, has_weight, adds_weight, weighing_clause, IsNamedWeighing, IsCostClause, weighs_at_most, limit_literals, cost_literals, BoundsAreNotStated}
 use Rattle.cost_least.specs.Pricing.{named_weights, IsInput, AsksCosts, cost_limit}
+use Rattle.prop_core.proofs.FurtherNames.{reads_both}
 
 -- ---- lists that read as others
 
@@ -47,17 +49,6 @@ reads_zip {X} names (l ∷ clause) (m ∷ named) are =
         all_change (λ o. (k : Lit) × Contains clause k × IsCalled names k o) (λ o. (k : Lit) × Contains (l ∷ clause) k × IsCalled names k o) named (λ o is. (is.0, here_later l clause is.0 is.1, is.2)) rest.all,
       );
     }
-
--- one behind another
-reads_both : {X : Type 0} (names : List (ℕ × X)) (first second : List Lit) (named other : List (LiteralOf X)) → ReadsBy names first named → ReadsBy names second other → ReadsBy names (first ++ second) (named ++ other)
-reads_both {X} names first second named other one two = record {
-  only = all_append (λ l. (m : LiteralOf X) × Contains (named ++ other) m × IsCalled names l m) first second
-      (all_change (λ l. (m : LiteralOf X) × Contains named m × IsCalled names l m) (λ l. (m : LiteralOf X) × Contains (named ++ other) m × IsCalled names l m) first (λ l is. (is.0, append_left named other is.0 is.1, is.2)) one.only)
-      (all_change (λ l. (m : LiteralOf X) × Contains other m × IsCalled names l m) (λ l. (m : LiteralOf X) × Contains (named ++ other) m × IsCalled names l m) second (λ l is. (is.0, append_right named other is.0 is.1, is.2)) two.only);
-  all = all_append (λ m. (l : Lit) × Contains (first ++ second) l × IsCalled names l m) named other
-      (all_change (λ m. (l : Lit) × Contains first l × IsCalled names l m) (λ m. (l : Lit) × Contains (first ++ second) l × IsCalled names l m) named (λ m is. (is.0, append_left first second is.0 is.1, is.2)) one.all)
-      (all_change (λ m. (l : Lit) × Contains second l × IsCalled names l m) (λ m. (l : Lit) × Contains (first ++ second) l × IsCalled names l m) other (λ m is. (is.0, append_right first second is.0 is.1, is.2)) two.all);
-}
 
 -- ---- the names
 
@@ -87,9 +78,6 @@ same_place i j k l same = (cc, cc)
 
 other_kind : (meaning : Meaning) (i j : ℕ) → of_question meaning ≡ weighs i j → ⊥
 other_kind meaning i j same = cc
-
-some_not_none : (meaning : Meaning) → Some meaning ≡ None → ⊥
-some_not_none meaning h = cc
 
 -- no variable of two places is the same
 same_variable : (scale : Scale) (i j k l : ℕ) → j < scale.amounts → l < scale.amounts → place_variable scale i j ≡ place_variable scale k l → (i ≡ k) × (j ≡ l)
@@ -127,7 +115,7 @@ module _ (net : Net) (cost : ℕ → ℕ) (log : Log) (n : ℕ) (names : List (�
       let none : meaning_of names (place_variable scale from.0 of'.0) ≡ None = asks.nameless (place_variable scale from.0 of'.0) (omega arith) in
       let has = has_name names a asks.asks.question.once in' in
       subst (λ (x : ℕ × CostMeaning). (a.0 ≢ x.0) × (of_question a.1 ≢ x.1)) of'.2
-      (λ same. some_not_none a.1 (sym has ∙ ap (meaning_of names) same ∙ none), λ same. other_kind a.1 from.0 of'.0 same))
+      (λ same. none-some a.1 (sym none ∙ ap (meaning_of names) (sym same) ∙ has), λ same. other_kind a.1 from.0 of'.0 same))
 
   of_place : (i j : ℕ) → i < scale.inputs → j < scale.amounts → Contains (cost_names names scale) (place_variable scale i j, weighs i j)
   of_place i j inside few =

@@ -1,12 +1,12 @@
 -- From the entries of a search to those of a whole answer: what came before, and the marks.
-use Rattle.std.proofs.Common.{◌≡◌, ◌∙◌, ◌⊎◌, inl, inr, ℕ, ◌+◌, false, List, [], ◌∷◌, ◌++◌, map, Option, None, Some, IfSome, IfNone, refl, sym, ap, subst, arith, Contains, count_by, append_assoc, append-nil}
+use Rattle.std.proofs.Common.{◌≡◌, ◌∙◌, ◌⊎◌, inl, inr, ℕ, ◌+◌, false, List, [], ◌∷◌, ◌++◌, map, Option, None, Some, IfSome, IfNone, refl, sym, ap, subst, arith, Contains, count_by, append_assoc}
 use Rattle.std.specs.List.{list_any}
-use Rattle.std.proofs.lemmas.List.Elements.{filter_map-append, Contains-append_cases}
+use Rattle.std.proofs.lemmas.List.Elements.{Contains-append_cases}
 use Rattle.event_costs.specs.declared.TheConstants.{MOST_COST}
 use Rattle.des_net.specs.Network.{Net}
 use Rattle.log_order.specs.Log.{Log}
 use Rattle.least_faults.proofs.Freshness.{fresh_axioms, fresh_both, fresh_mark}
-use Rattle.least_faults.proofs.Putting.{learnt_no_final, no_final_in, none_final, none_joined, none_learnt, none_marked}
+use Rattle.least_faults.proofs.Putting.{learnt_no_final, no_final_in, none_final, none_joined, none_marked}
 use Rattle.least_faults.specs.Answers.{HaveLearntFresh}
 use Rattle.least_faults.specs.Asking.{IsSearching}
 use Rattle.least_faults.specs.Evidence.{is_final, HasFinal, HasLastFinal}
@@ -14,7 +14,7 @@ use Rattle.least_faults.specs.Growing.{AddsAxioms, HasGrownWithin}
 use Rattle.least_faults.specs.declared.parts.Parts.{Parts}
 use Rattle.log_encode.specs.CodedLog.{CodedLog}
 use Rattle.log_encode.specs.Drafted.{LogCodeState}
-use Rattle.proof_ledger.specs.Book.{BookEntry, axiomatic, final, mark, axiom_of, clause_of, axioms_of, clauses_of, is_mark}
+use Rattle.proof_ledger.specs.Book.{BookEntry, axiomatic, final, mark, axioms_of, clauses_of, is_mark}
 use Rattle.proof_ledger.specs.Fresh.{is_learnt}
 use Rattle.prop_core.specs.Clauses.{Clause}
 use Rattle.prop_core.specs.Trail.{Clashes}
@@ -22,7 +22,7 @@ use Rattle.prop_core.specs.declared.lit.Lit.{Lit}
 use Rattle.run_decode.proofs.Faults.{count_append}
 use Rattle.step_encode.specs.Coded.{CodedSteps}
 use Rattle.weight_counter.specs.declared.scale.Scale.{Scale}
-use Rattle.cost_least.specs.Answers.{CostAsked, PoseCostQuestion, IsPriced, IsCostEvidence, IsCheapFound, HasConflictOf, HasConflictAt, HasCostConflict, IsCostAnswered, IsKnownAbove}
+use Rattle.cost_least.specs.Answers.{CostAsked, PoseCostQuestion, IsCostEvidence, IsCheapFound, HasConflictOf, HasConflictAt, HasCostConflict, IsCostAnswered, IsKnownAbove}
 use Rattle.cost_least.specs.Asking.{HasAskedCost}
 use Rattle.cost_least.specs.Searching.{HasFoundCost, asked_of}
 use Rattle.cost_least.specs.Weighed.{AreWeighedParts, KeepsCode, assumed_at}
@@ -31,6 +31,7 @@ use Rattle.cost_least.specs.declared.answer.Cheap.TheVariants.{Found, Absent, De
 use Rattle.cost_least.specs.declared.answer.Priced.{Priced}
 use Rattle.cost_least.specs.declared.asking.Asked.{Asked}
 use Rattle.cost_least.specs.declared.asking.Asked.TheVariants.{Refuted, Spent}
+use Rattle.proof_ledger.proofs.AxiomLists.{none_learnt, marked_axioms, marked_clauses}
 
 -- ---- by the parts as they were
 
@@ -40,9 +41,6 @@ asked_back net cost log old new scale bound book then before after given asked k
     subst (λ (s : CodedSteps). HasAskedCost (record { net = net; cost = cost; log = log; steps = s.steps }) old.code.coded scale bound book then before after asked) keeps.step
     (subst (λ (c : LogCodeState). HasAskedCost (asked_of net cost log new) c.coded scale bound book then before after asked) keeps.code
     (subst (HasAskedCost (asked_of net cost log new) new.code.coded scale bound book then before after) is has))
-
-pub priced_still : {R : Type 0} (net : Net) (cost : ℕ → ℕ) (log : Log) (old new : Parts R) (priced : Priced) → KeepsCode old new → IsPriced (asked_of net cost log old) priced → IsPriced (asked_of net cost log new) priced
-priced_still net cost log old new priced keeps = subst (λ (s : CodedSteps). IsPriced (record { net = net; cost = cost; log = log; steps = s.steps }) priced) (sym keeps.step)
 
 pub found_still : {R : Type 0} (net : Net) (cost : ℕ → ℕ) (log : Log) (old new : Parts R) (budget : ℕ) (book then : List BookEntry) (cheap : Cheap) → KeepsCode old new → HasFoundCost (asked_of net cost log old) budget book then cheap → HasFoundCost (asked_of net cost log new) budget book then cheap
 found_still net cost log old new budget book then cheap keeps = subst (λ (s : CodedSteps). HasFoundCost (record { net = net; cost = cost; log = log; steps = s.steps }) budget book then cheap) (sym keeps.step)
@@ -158,12 +156,6 @@ found_later q budget left old mid new front answer whole unmarked none paid fres
 }
 
 -- ---- marks
-
-marked_axioms : (book : List BookEntry) (number : ℕ) → axioms_of (book ++ mark number ∷ []) ≡ axioms_of book
-marked_axioms book number = filter_map-append axiom_of book (mark number ∷ []) ∙ append-nil (axioms_of book)
-
-marked_clauses : (book : List BookEntry) (number : ℕ) → clauses_of (book ++ mark number ∷ []) ≡ clauses_of book
-marked_clauses book number = filter_map-append clause_of book (mark number ∷ []) ∙ append-nil (clauses_of book)
 
 conflict_by : (q : CostAsked) (book new : List BookEntry) (bound : Option ℕ) → axioms_of new ≡ axioms_of book → clauses_of new ≡ clauses_of book → HasCostConflict q bound book → HasCostConflict q bound new
 conflict_by q book new bound axioms clauses has = record {

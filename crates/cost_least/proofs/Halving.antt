@@ -5,7 +5,7 @@ use Rattle.std.specs.List.{AllByRecursion}
 use Rattle.std.proofs.lemmas.Bool.{cases_lt}
 use Rattle.std.proofs.lemmas.List.Elements.{Contains-append_cases, Contains-append_right, recursion_from_All}
 use Rattle.card_counter.specs.CounterState.{negative}
-use Rattle.des_base.proofs.Elements.{cons_cases, here_first, here_later, none_in_nil}
+use Rattle.des_base.proofs.Elements.{cons_cases, none_in_nil}
 use Rattle.event_costs.specs.declared.TheConstants.{MOST_COST}
 use Rattle.least_faults.proofs.Entailing.{final_entailed}
 use Rattle.least_faults.proofs.Freshness.{fresh_none, fresh_both}
@@ -15,7 +15,7 @@ use Rattle.log_clauses.proofs.Lists.{all_at}
 use Rattle.log_encode.specs.CodedLog.{CodedLog}
 use Rattle.proof_ledger.specs.Book.{BookEntry, final, axioms_of, clauses_of, is_mark, IsValidBook}
 use Rattle.proof_ledger.specs.Fresh.{is_learnt}
-use Rattle.prop_core.specs.Clauses.{Clause, HasValues, negation, NegatesOnly}
+use Rattle.prop_core.specs.Clauses.{HasValues, negation, NegatesOnly}
 use Rattle.prop_core.specs.Trail.{Clashes}
 use Rattle.prop_core.specs.declared.lit.Lit.{Lit}
 use Rattle.replay.specs.Matching.{order_of}
@@ -34,29 +34,7 @@ use Rattle.cost_least.specs.Weighed.{log_guards, assumed_at}
 use Rattle.cost_least.specs.declared.answer.Cheap.TheVariants.{Found, Dear, Undecided}
 use Rattle.cost_least.specs.declared.answer.Priced.{Priced}
 use Rattle.cost_least.specs.declared.asking.Asked.TheVariants.{Explained, Refuted, Spent}
-
--- ---- a clause that negates a longer list
-
-record NegatesLast (x : Lit) (clause : Clause) : Type 0 where
-  l : Lit
-  there : Contains clause l
-  is : negation l ≡ x
-
-split_negates : (assumed : List Lit) (x : Lit) (clause : Clause) → NegatesOnly (assumed ++ x ∷ []) clause → NegatesOnly assumed clause ⊎ NegatesLast x clause
-split_negates assumed x [] negates = inl tt
-split_negates assumed x (l ∷ clause) negates = by (Contains-append_cases assumed (x ∷ []) (negation l) negates.0) (split_negates assumed x clause negates.1)
-  where
-    last : Contains (x ∷ []) (negation l) → negation l ≡ x
-    last in' = only (cons_cases x [] (negation l) in')
-      where
-        only : (x ≡ negation l) ⊎ Contains [] (negation l) → negation l ≡ x
-        only (inl is) = sym is
-        only (inr none) = absurd (none_in_nil (negation l) none)
-
-    by : Contains assumed (negation l) ⊎ Contains (x ∷ []) (negation l) → NegatesOnly assumed clause ⊎ NegatesLast x clause → NegatesOnly assumed (l ∷ clause) ⊎ NegatesLast x (l ∷ clause)
-    by (inr is) rest = inr (record { l = l; there = here_first l clause l refl; is = last is })
-    by (inl here) (inl rest) = inl (here, rest)
-    by (inl here) (inr found) = inr (record { l = found.l; there = here_later l clause found.l found.there; is = found.is })
+use Rattle.prop_core.proofs.Negations.{NegatesLast, split_negates}
 
 -- literals of two amounts are not the same
 same_amount : (scale : Scale) (i j b : ℕ) → negative (place_variable scale i j) ≡ negative (place_variable scale i b) → j ≡ b

@@ -41,12 +41,6 @@ parts_same x y xs ys h = (cc, cc)
 numbers_same : (x y : ℕ) (xs ys : List ℕ) → x ∷ xs ≡ y ∷ ys → (x ≡ y) × (xs ≡ ys)
 numbers_same x y xs ys h = (cc, cc)
 
-none_named : (names : List (ℕ × Meaning)) (l : Lit) (clause : List Lit) → named_clause names (l ∷ clause) ≡ Some [] → ⊥
-none_named names l clause h = let parts = read_of names l clause [] h in differs parts.first parts.rest parts.whole
-  where
-    differs : (x : NamedLiteral) (xs : List NamedLiteral) → [] ≡ x ∷ xs → ⊥
-    differs x xs q = cc
-
 pub zip_inputs : (names : List (ℕ × Meaning)) (inputs : List Weighted) (named : List (Meaning × ℕ)) → named_clause names (map (λ (x : Weighted). x.input) inputs) ≡ Some (map (λ (m : Meaning × ℕ). yes m.0) named) →
     map (λ (x : Weighted). x.weight) inputs ≡ map (λ (m : Meaning × ℕ). m.1) named → AllZip (IsInput names) inputs named
 zip_inputs names [] [] h weights = tt

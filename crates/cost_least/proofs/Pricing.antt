@@ -4,11 +4,12 @@ use Rattle.std.specs.Bool.{beq}
 use Rattle.std.specs.List.{AllZip}
 use Rattle.std.proofs.lemmas.Bool.{cases_lt, leb-true, le-leb}
 use Rattle.std.proofs.lemmas.List.Sums.{sum_by-cons}
-use Rattle.des_base.proofs.BoolLemmas.{otherwise}
+use Rattle.des_base.proofs.BoolLemmas.{otherwise, beq_true, beq_false}
 use Rattle.des_base.proofs.Elements.{all_append}
 use Rattle.des_net.specs.Network.{Net, IsNetwork}
 use Rattle.log_order.specs.Log.{Log, IsValidLog}
 use Rattle.prop_core.proofs.NameLemmas.{values_match, assignments_match}
+use Rattle.prop_core.proofs.Premises.{negated}
 use Rattle.prop_core.specs.Clauses.{Clause, literal_true, AllClausesTrue}
 use Rattle.prop_core.specs.NamedClauses.{Match, value_by, assignment_by}
 use Rattle.prop_core.specs.VariableNames.{Meaning, meaning_of, HasEachOnce}
@@ -34,18 +35,6 @@ use Rattle.cost_least.specs.Pricing.{ExplainsAt, named_weights, weight_named, Is
 nothing_more : {X : Type 0} (xs : List X) → xs ++ [] ≡ xs
 nothing_more [] = refl
 nothing_more (x ∷ xs) = ap (λ ys. x ∷ ys) (nothing_more xs)
-
-beq_true : (b : Bool) → beq b true ≡ b
-beq_true true = refl
-beq_true false = refl
-
-beq_false : (b : Bool) → beq b false ≡ not b
-beq_false true = refl
-beq_false false = refl
-
-low : (b : Bool) → beq b false ≡ true → b ≡ true → ⊥
-low true h k = cc
-low false h k = cc
 
 -- ---- weights by variable and by name
 
@@ -129,7 +118,7 @@ module _ (names : List (ℕ × Meaning)) (once : HasEachOnce names) (scale : Sca
       by assignment makes (inl more) =
           let whole = whole_weight assignment (value_by names assignment) (values_match names once assignment) some in
           let on = weights_are_reached (place_variable scale) inputs scale.amounts weighing assignment weights makes.clauses_true (length inputs - 1) b (omega (arith, some)) few (omega (arith, whole, more)) in
-          absurd (low (assignment (place_variable scale (length inputs - 1) b)) makes.assumed_true.0 on)
+          absurd (negated (assignment (place_variable scale (length inputs - 1) b)) makes.assumed_true.0 on)
 
   no_limit_rides : Rides names weighing [] (λ value. 0 ≤ 0)
   no_limit_rides = record {

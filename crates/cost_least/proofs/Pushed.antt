@@ -4,11 +4,10 @@ use Rattle.std.specs.List.{AllByRecursion}
 use Rattle.std.proofs.lemmas.Bool.{cases_eq}
 use Rattle.std.proofs.lemmas.Bool.Decides.{eqb_tells}
 use Rattle.std.proofs.lemmas.Grind.{flat_map-append}
-use Rattle.des_base.proofs.Elements.{all_from}
+use Rattle.des_base.proofs.Elements.{all_from, filter_from}
 use Rattle.des_base.proofs.NumbersBelow.{filter_numbers_yes, filter_numbers_no}
 use Rattle.des_base.specs.Lists.{numbers_below}
 use Rattle.des_net.specs.Network.{Net, is_fault}
-use Rattle.log_clauses.proofs.Lists.{filter_from}
 use Rattle.prop_core.specs.declared.grid.Grid.{Grid}
 use Rattle.run_clauses.proofs.Lists.{from_numbers}
 use Rattle.weight_counter.specs.declared.weighted.Weighted.{Weighted}

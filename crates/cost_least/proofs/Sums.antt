@@ -7,9 +7,8 @@ use Rattle.des_base.specs.Lists.{EachPair}
 use Rattle.des_net.specs.Network.{Net, is_fault}
 use Rattle.des_net.specs.Width.{joined}
 use Rattle.des_base.proofs.NumbersBelow.{range_once}
-use Rattle.des_base.proofs.Elements.{cons_cases, here_first, here_later, none_in_nil, all_at}
-use Rattle.log_clauses.proofs.Lists.{filter_has, filter_from, pairs_filter}
-use Rattle.des_base.proofs.BoolLemmas.{otherwise}
+use Rattle.des_base.proofs.Elements.{cons_cases, here_first, here_later, none_in_nil, all_at, filter_has, filter_from, pairs_filter}
+use Rattle.des_base.proofs.BoolLemmas.{otherwise, not_true}
 use Rattle.log_clauses.proofs.Pieces.{IsStepSet, AreFrom, pieces_are_steps}
 use Rattle.log_clauses.specs.Decoded.{is_false_alarm}
 use Rattle.log_order.specs.Log.{Log, is_doubtful}
@@ -25,10 +24,6 @@ use Rattle.cost_least.specs.Pricing.{CostsAreWeights, weight_by}
 
 others : ℕ → List ℕ → List ℕ
 others x ys = filter (λ y. not (y == x)) ys
-
-not_true : (b : Bool) → not b ≡ true → b ≡ false
-not_true true h = cc
-not_true false h = refl
 
 -- a number that isn't there
 none_removed : (f : ℕ → ℕ) (x : ℕ) (ys : List ℕ) → AllByRecursion (λ y. x ≢ y) ys → sum_by f (others x ys) ≡ sum_by f ys

@@ -2,7 +2,6 @@
 use Rattle.std.proofs.Common.{◌≡◌, ◌∙◌, ℕ, ◌+◌, ◌*◌, ◌≤◌, List, [], ◌++◌, map, refl, sym, ap, subst, arith, append-nil}
 use Rattle.event_costs.specs.declared.TheConstants.{MOST_COST}
 use Rattle.card_counter.specs.CounterState.{CounterState}
-use Rattle.least_faults.proofs.AxiomLists.{axioms_added}
 use Rattle.least_faults.proofs.Freshness.{fresh_none, fresh_searched}
 use Rattle.least_faults.proofs.Putting.{derived_unmarked, same_axioms}
 use Rattle.least_faults.proofs.Ranking.{still_ranked}
@@ -26,6 +25,7 @@ use Rattle.weight_counter.specs.declared.scale.Scale.{Scale}
 use Rattle.weight_counter.specs.declared.weighted.Weighted.{Weighted}
 use Rattle.cost_least.specs.Searching.{StayWeighed}
 use Rattle.cost_least.specs.Weighed.{AreWeightedInputs, AreWeighedParts, AreWeighed, KeepsCode}
+use Rattle.proof_ledger.proofs.AxiomLists.{axioms_added}
 
 -- ---- as it is written
 

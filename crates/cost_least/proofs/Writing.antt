@@ -4,7 +4,6 @@ use Rattle.std.specs.List.{AllByRecursion}
 use Rattle.std.proofs.Math.Seq.{take-append_seam, drop-append_seam}
 use Rattle.std.proofs.lemmas.List.Elements.{All-weaker}
 use Rattle.des_base.proofs.Elements.{all_change}
-use Rattle.least_faults.proofs.AxiomLists.{clauses_added}
 use Rattle.proof_ledger.specs.Book.{BookEntry, axiomatic, clauses_of}
 use Rattle.prop_core.specs.declared.lit.Lit.{Lit}
 use Rattle.sat_prop.specs.Changes.{IsFront}
@@ -13,6 +12,7 @@ use Rattle.weight_counter.proofs.Small.{scales_are_small}
 use Rattle.weight_counter.specs.Scales.{AddsScale, place_variable, scale_clauses}
 use Rattle.weight_counter.specs.declared.scale.Scale.{Scale}
 use Rattle.weight_counter.specs.declared.weighted.Weighted.{Weighted}
+use Rattle.proof_ledger.proofs.AxiomLists.{clauses_added}
 
 -- the clauses that were written behind none
 pub record AreWritten (inputs : List Weighted) (amounts first : ℕ) (all : List Clause) : Type 0 where

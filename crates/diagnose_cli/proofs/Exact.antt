@@ -1,8 +1,7 @@
 -- Each file that is too long and each fault of a text has its status.
-use Rattle.std.proofs.Common.{◌≡◌, ◌≢◌, inl, inr, ℕ, ◌+◌, ◌<◌, ◌≤◌, List, [], ◌∷◌, ◌++◌, length, Bool, true, false, nat_lt, Option, Some, None, Ok, Err, IfSome, IsOkAnd, MatchOption, IsErrAnd, refl, sym, ap, subst, append-nil, arith}
+use Rattle.std.proofs.Common.{◌≡◌, ◌≢◌, inl, inr, ℕ, ◌+◌, ◌<◌, ◌≤◌, List, [], ◌∷◌, ◌++◌, length, Bool, nat_lt, Option, Some, None, Ok, Err, IfSome, IsOkAnd, MatchOption, IsErrAnd, refl, sym, ap, subst, append-nil}
 use Rattle.std.specs.Prelude.{if◌then◌else◌, option_and_then}
 use Rattle.std.specs.List.{concat}
-use Rattle.std.proofs.lemmas.Bool.Decides.{nat_tests}
 use Rattle.des_base.specs.Outside.{Took}
 use Rattle.des_base.specs.CommandWords.{word_at}
 use Rattle.proof_ledger.specs.Book.{BookEntry}
@@ -19,28 +18,23 @@ use Rattle.diagnose_cli.specs.Due.{halts, Closes, InOrder, MayAnswer}
 use Rattle.diagnose_cli.specs.Exact.{past, first_stop, stop_of_command, StopRow}
 use Rattle.diagnose_cli.specs.Outcomes.{Outcome}
 use Rattle.diagnose_cli.specs.Run.{Ends}
+use Rattle.des_base.proofs.BoolLemmas.{is_less, not_less}
 
 -- e is the stop that is stated, if one is
 abbrev Is : Ending → Option Stop → Type 0
 Is e o = IfSome o (λ stop. e ≡ Err stop)
 
-lt_true : (a b : ℕ) → a < b → nat_lt a b ≡ true
-lt_true a b h = grind (arith, nat_tests)
-
-lt_false : (a b : ℕ) → b ≤ a → nat_lt a b ≡ false
-lt_false a b h = grind (arith, nat_tests)
-
 long_here : (o : Option (List ℕ)) (e : Ending) (i limit : ℕ) (rest : List ℕ → Option Stop) → e ≡ Err (Long i) → IfSome o (λ held. limit < length held)
     → Is e (option_and_then (λ bytes. if nat_lt limit (length bytes) then Some (Long i) else rest bytes) o)
 long_here None e i limit rest p h = tt
-long_here (Some bytes) e i limit rest p h = subst (λ (b : Bool). Is e (if b then Some (Long i) else rest bytes)) (sym (lt_true limit (length bytes) h)) p
+long_here (Some bytes) e i limit rest p h = subst (λ (b : Bool). Is e (if b then Some (Long i) else rest bytes)) (sym (is_less limit (length bytes) h)) p
 
 holds_here : (o : Option (List ℕ)) (e : Ending) (i limit : ℕ) (bytes : List ℕ) (rest : List ℕ → Option Stop) → IfSome o (λ held. held ≡ bytes) → length bytes ≤ limit → Is e (rest bytes)
     → Is e (option_and_then (λ bytes. if nat_lt limit (length bytes) then Some (Long i) else rest bytes) o)
 holds_here None e i limit bytes rest p h q = tt
 holds_here (Some held) e i limit bytes rest p h q =
     subst (λ (ns : List ℕ). Is e (if nat_lt limit (length ns) then Some (Long i) else rest ns)) (sym p)
-    (subst (λ (b : Bool). Is e (if b then Some (Long i) else rest bytes)) (sym (lt_false limit (length bytes) h)) q)
+    (subst (λ (b : Bool). Is e (if b then Some (Long i) else rest bytes)) (sym (not_less limit (length bytes) h)) q)
 
 past_here : (o : Option FaultyText) (e : Ending) (rest : Option Stop) (P : Type 0) → MatchOption o P (λ text. e ≡ Err (Faulty text)) → (P → Is e rest) → Is e (past o rest)
 past_here None e rest P h f = f h

@@ -19,7 +19,6 @@ mod ShowAnswers
 mod ReplayAnswers
 mod CheckAnswers
 mod Limits
-mod KnownRuns
 mod RunLengths
 mod MatchedNames
 mod RepliesReplay

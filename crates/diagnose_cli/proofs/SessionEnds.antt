@@ -1,19 +1,17 @@
 -- How a session ends that has carried out some rows: finished, or cut off or broken off at a row that it came to.
-use Rattle.std.proofs.Common.{◌≡◌, ◌⊎◌, ◌∙◌, inl, inr, ℕ, List, [], ◌∷◌, ◌++◌, Option, Result, Ok, Err, refl, sym, ap, subst, append-nil, append_assoc}
+use Rattle.std.proofs.Common.{◌≡◌, ℕ, List, [], Option, Result, Ok, Err, refl, subst}
 use Rattle.alarm_session.specs.Session.{IsSessionBook, Stage, first_stage}
-use Rattle.des_net.specs.Network.{Net}
 use Rattle.log_csv.specs.declared.row.Row.{Row}
-use Rattle.proof_ledger.specs.Book.{BookEntry}
 use Rattle.telling.specs.Telling.{BreaksOff, ComesTo as TellsTo, EachGoes, IsCutShort, TellsEach}
 use Rattle.telling.specs.declared.each.Broken.{Broken}
 use Rattle.telling.specs.declared.each.Broken.TheVariants.{Memory, Put}
 use Rattle.endings.specs.declared.ending.Kind.TheVariants.{Done}
 use Rattle.diagnose_cli.specs.declared.session_rows.Plan.{Plan}
 use Rattle.endings.specs.Puts.{Speaks}
-use Rattle.diagnose_cli.specs.SessionReplies.{SessionComesTo, EndsSession, HasReplies, IsBroken, IsCut, IsRowReplied, IsUntold}
-use Rattle.diagnose_cli.specs.Sessions.{IsCarriedOut, MaySay, RowIsUntold, RowTells, status_of_session}
-use Rattle.endings.specs.Transcripts.{End, said, cut, broken}
-use Rattle.diagnose_cli.proofs.SessionFronts.{nothing_replied, replied_more, row_replied, rows_told}
+use Rattle.diagnose_cli.specs.SessionReplies.{SessionComesTo, EndsSession, HasReplies, IsRowReplied, IsUntold}
+use Rattle.diagnose_cli.specs.Sessions.{MaySay, RowIsUntold, RowTells, status_of_session}
+use Rattle.endings.specs.Transcripts.{said, cut, broken}
+use Rattle.diagnose_cli.proofs.SessionFronts.{nothing_replied, row_replied, rows_told}
 use Rattle.endings.proofs.Speaking.{speaks_broken, speaks_cut, speaks_said}
 
 module _ {S : Type 0} (plan : S → Plan) (stage : S → Stage) (s : S) (rows : List Row) (t : S) (begins : stage s ≡ first_stage (plan s).net (plan s).limits.steps) (asks : IsSessionBook (plan s).net (plan s).limits.steps (stage s)) where
@@ -70,60 +68,3 @@ pub rows_speak : {S : Type 0} (t : S) (plan : S → Plan) (stage : S → Stage) 
     → stage s ≡ first_stage (plan s).net (plan s).limits.steps → IsSessionBook (plan s).net (plan s).limits.steps (stage s)
     → Speaks (MaySay (plan s).net (plan s).limits.steps (plan s).limits.budget rows (stage t).book) ((stage t).book ≡ []) before now rose (status_of_session r)
 rows_speak t plan stage s rows before now rose r goes begins asks = by_end plan stage s rows t begins asks before now rose r goes
-
--- ---- whatever the end
-
--- These are the replies to a front of the rows, which came to one stage, and the book is that of another, to which one more row brought at most.
-pub record TellsFront (net : Net) (n budget : ℕ) (rows : List Row) (book : List BookEntry) (texts : List (List ℕ)) : Type 0 where
-  pub front : List Row
-  pub others : List Row
-  pub split : rows ≡ front ++ others
-  pub left : Stage
-  pub end : Stage
-  pub replied : HasReplies net n budget front left texts
-  pub behind : (end ≡ left) ⊎ ((row : Row) × (rest : List Row) × (others ≡ row ∷ rest) × IsUntold net n budget row left end)
-  pub book_is : book ≡ end.book
-
-module _ (net : Net) (n budget : ℕ) (rows : List Row) (book : List BookEntry) where
-  cut_tells : (texts : List (List ℕ)) → IsCut net n budget rows book texts → TellsFront net n budget rows book texts
-  cut_tells texts h =
-      let here = h.replied in
-      let front = h.comes.front in
-      let carried : IsCarriedOut net n budget h.left h.row h.end here.told = record { holds = here.holds; replays = here.replays } in
-      record {
-        front = front ++ h.row ∷ [];
-        others = h.comes.others;
-        split = h.comes.split ∙ sym (append_assoc front (h.row ∷ []) h.comes.others);
-        left = h.end;
-        end = h.end;
-        replied = subst (HasReplies net n budget (front ++ h.row ∷ []) h.end) (ap (λ (ts : List (List ℕ)). h.earlier ++ ts) here.is ∙ sym h.are)
-            (replied_more net n budget front h.row h.left h.end h.earlier here.told h.comes.replied carried);
-        behind = inl refl;
-        book_is = h.book_is;
-      }
-
-  broken_tells : (texts : List (List ℕ)) → IsBroken net n budget rows book texts → TellsFront net n budget rows book texts
-  broken_tells texts h = record {
-    front = h.comes.front;
-    others = h.row ∷ h.comes.others;
-    split = h.comes.split;
-    left = h.left;
-    end = h.end;
-    replied = h.comes.replied;
-    behind = inr (h.row, h.comes.others, refl, h.untold);
-    book_is = h.book_is;
-  }
-
-  pub session_tells : (texts : List (List ℕ)) (end : End) → EndsSession net n budget rows book texts end → TellsFront net n budget rows book texts
-  session_tells texts (said kind) h = record {
-    front = rows;
-    others = [];
-    split = sym (append-nil rows);
-    left = h.1.left;
-    end = h.1.left;
-    replied = h.1.replied;
-    behind = inl refl;
-    book_is = h.1.book_is;
-  }
-  session_tells texts cut h = cut_tells texts h
-  session_tells texts broken h = broken_tells texts h

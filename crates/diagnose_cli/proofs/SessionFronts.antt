@@ -25,8 +25,8 @@ use Rattle.telling.specs.Telling.{TellsEach}
 use Rattle.diagnose_cli.specs.declared.session_rows.Plan.{Plan}
 use Rattle.diagnose_cli.specs.SessionReplies.{AreDecided, HasReplies, IsDecided, IsRowReplied, RunsReplay, TellsDecided, TellsReplaying, replies_to}
 use Rattle.diagnose_cli.specs.Sessions.{IsCarriedOut, RowIsUntold, RowTells, TellsKnown}
-use Rattle.diagnose_cli.proofs.KnownRuns.{known}
 use Rattle.diagnose_cli.proofs.RepliesReplay.{run_replays}
+use Rattle.verdict_telling.proofs.Runs.{known}
 
 -- ---- what one row tells
 

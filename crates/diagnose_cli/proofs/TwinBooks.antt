@@ -1,24 +1,23 @@
 -- The book that a twin test leaves, as a whole.
-use Rattle.std.proofs.Common.{◌≡◌, ◌∙◌, ◌<◌, ◌^◌, ℕ, Bool, true, false, List, [], ◌∷◌, ◌++◌, map, refl, sym, ap, subst, arith, append-nil, append_assoc, Contains, ◌==◌}
-use Rattle.std.specs.List.{AllByRecursion, list_any}
-use Rattle.std.proofs.lemmas.Bool.{eqb-true}
-use Rattle.std.proofs.lemmas.List.Elements.{All-head, All-tail, Contains-append_left, Contains-append_right, filter_map-append}
-use Rattle.std.proofs.lemmas.List.FromFn.{length-range_with_len, get_or-range_with_len}
-use Rattle.des_base.proofs.Elements.{all_at, here_later}
+use Rattle.std.proofs.Common.{◌≡◌, ◌∙◌, ◌<◌, ◌^◌, ℕ, true, List, [], ◌∷◌, ◌++◌, map, refl, sym, ap, subst, arith, append-nil, append_assoc, Contains}
+use Rattle.std.specs.List.{list_any}
+use Rattle.std.proofs.lemmas.List.Elements.{Contains-append_left, Contains-append_right, filter_map-append}
+use Rattle.std.proofs.lemmas.List.FromFn.{length-range_with_len}
+use Rattle.des_base.proofs.Elements.{here_later}
 use Rattle.des_base.specs.Lists.{numbers_below}
 use Rattle.des_net.specs.Network.{Net}
 use Rattle.least_faults.proofs.FreshCount.{fresh_below}
 use Rattle.least_faults.proofs.Freshness.{fresh_closed}
 use Rattle.proof_ledger.specs.Book.{BookEntry, axiomatic, final, mark, axiom_of, axioms_of, clause_of, clauses_of}
 use Rattle.proof_ledger.specs.Fresh.{AreFresh, occurs}
-use Rattle.prop_core.specs.Clauses.{Clause, HasValues}
+use Rattle.prop_core.specs.Clauses.{Clause}
 use Rattle.prop_core.specs.Trail.{has_var}
-use Rattle.twin_test.proofs.Lists.{any_from}
 use Rattle.twin_test.proofs.Testing.{book_axioms, marked}
 use Rattle.twin_test.specs.Tested.{IsClosedBook, IsTested}
 use Rattle.twin_test.specs.TwinCodes.{AskTwins, twin_clauses, twin_variables}
 use Rattle.twin_test.specs.declared.answer.Twin.{Twin}
 use Rattle.twin_test.specs.declared.answer.Twin.TheVariants.{Undecided}
+use Rattle.inquiries.proofs.PricedBooks.{known_below}
 
 -- ---- the closing mark has no clause
 
@@ -29,24 +28,6 @@ axioms_inside cs since =
 clauses_inside : (cs : List Clause) (since : List BookEntry) → clauses_of (map axiomatic cs ++ mark 0 ∷ since ++ mark 1 ∷ []) ≡ clauses_of (marked cs ++ since)
 clauses_inside cs since =
     filter_map-append clause_of (map axiomatic cs ++ mark 0 ∷ since) (mark 1 ∷ []) ∙ append-nil (clauses_of (map axiomatic cs ++ mark 0 ∷ since)) ∙ ap clauses_of (sym (append_assoc (map axiomatic cs) (mark 0 ∷ []) since))
-
--- ---- variables below a number
-
-below_var : (count var : ℕ) (clause : Clause) → HasValues count clause → has_var var clause ≡ true → var < count
-below_var count var [] below there = cc
-below_var count var (l ∷ clause) below there = by (l.var == var) refl (below_var count var clause (All-tail (λ m. m.var < count) l clause below))
-  where
-    by : (b : Bool) → (l.var == var) ≡ b → (has_var var clause ≡ true → var < count) → var < count
-    by true e later = subst (λ v. v < count) (eqb-true l.var var e) (All-head (λ m. m.var < count) l clause below)
-    by false e later = later (rw e at there)
-
-among_numbers : (count var : ℕ) → var < count → Contains (numbers_below count) var
-among_numbers count var below = (var, omega (arith, length-range_with_len 0 count), omega (arith, get_or-range_with_len 0 count var var below))
-
-known_below : (count : ℕ) (clauses : List Clause) → AllByRecursion (HasValues count) clauses → (var : ℕ) → list_any (has_var var) clauses ≡ true → Contains (numbers_below count) var
-known_below count clauses below var there =
-    let some = any_from (has_var var) clauses there in
-    among_numbers count var (below_var count var some.0 (all_at (HasValues count) clauses some.0 below some.1) some.2)
 
 -- ---- the book
 

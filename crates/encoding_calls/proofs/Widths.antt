@@ -1,5 +1,5 @@
 -- Small networks need few variables.
-use Rattle.std.proofs.Common.{◌≡◌, ℕ, ◌+◌, ◌*◌, ◌≤◌, not, List, [], ◌∷◌, length, filter, map, None, refl, ap, arith}
+use Rattle.std.proofs.Common.{ℕ, ◌+◌, ◌*◌, ◌≤◌, not, List, length, filter, map, refl, arith}
 use Rattle.std.proofs.lemmas.List.Filters.{length-filter_both}
 use Rattle.std.proofs.lemmas.List.FromFn.{length-range_with_len}
 use Rattle.std.proofs.lemmas.Nat.{mul-le}
@@ -11,22 +11,14 @@ use Rattle.des_net.specs.Network.{Net, label_of, observable_events}
 use Rattle.log_clauses.specs.Additions.{alarm_added, with_addition}
 use Rattle.log_clauses.specs.Drafts.{taken_events}
 use Rattle.log_clauses.specs.LogNames.{first_meanings}
-use Rattle.log_encode.proofs.TakenLemmas.{width_is, map_count, false_is_small}
+use Rattle.log_encode.proofs.TakenLemmas.{width_is, map_count, false_is_small, unlinked, events_again}
 use Rattle.log_encode.specs.CodedLog.{CodedLog, addition_width, nameless}
-use Rattle.log_encode.specs.declared.taken.Taken.{Taken}
 use Rattle.prop_core.specs.VariableNames.{closed}
 use Rattle.replay.specs.Explanation.{is_matching}
 use Rattle.step_encode.proofs.FewChains.{chain_le}
 
 among_numbers : (p : ℕ → Bool) (k : ℕ) → length (filter p (numbers_below k)) ≤ k
 among_numbers p k = omega (arith, length-filter_both p (λ x. not (p x)) (λ x. refl) (numbers_below k), length-range_with_len 0 k)
-
-abbrev unlinked : ℕ → Taken
-unlinked e = record { event = e; last = None }
-
-events_again : (events : List ℕ) → map (λ (taken : Taken). taken.event) (map unlinked events) ≡ events
-events_again [] = refl
-events_again (e ∷ events) = ap (λ rest. e ∷ rest) (events_again events)
 
 -- eight events in eight steps, and a thousand variables before
 pub alarm_fits : (code : CodedLog) (labels : List (List ℕ)) (maybe : Bool) (first : ℕ) → length code.net.events ≤ 8 → code.grid.steps ≤ 8 → first ≤ 1000 →

@@ -16,7 +16,6 @@ use Rattle.fault_verdicts.specs.declared.answer.Verdict.{Verdict}
 use Rattle.fault_verdicts.specs.declared.answer.Verdict.TheVariants.{Possible, Open}
 use Rattle.least_faults.proofs.Asked.{both_paid, both_unmarked, both_whole}
 use Rattle.least_faults.proofs.Assuming.{negates_only}
-use Rattle.least_faults.proofs.Closing.{marked_axioms, marked_clauses}
 use Rattle.least_faults.proofs.Entailing.{final_entailed}
 use Rattle.least_faults.proofs.Freshness.{fresh_after}
 use Rattle.least_faults.proofs.Putting.{same_axioms, same_last}
@@ -41,6 +40,7 @@ use Rattle.sat_solve.specs.Searching.{HasAxiomVars, HasPut, IsRefuted, IsSearche
 use Rattle.sat_solve.specs.declared.answer.Answer.TheVariants as solver
 use Rattle.step_encode.specs.Coded.{code_grid}
 use Rattle.step_encode.specs.FaultInputs.{fault_literals}
+use Rattle.proof_ledger.proofs.AxiomLists.{marked_axioms, marked_clauses}
 
 -- ---- what is true of a model
 

@@ -1,8 +1,9 @@
 -- A question with what was made for verdicts beside it is drawn from its families, and asks which explanations have an event.
 use Rattle.std.proofs.Common.{◌≡◌, ◌≢◌, ◌∙◌, ◌⊎◌, inl, inr, ℕ, suc, ◌<◌, true, List, [], ◌∷◌, ◌++◌, map, length, None, Some, refl, sym, ap, subst, Contains}
 use Rattle.std.proofs.lemmas.List.Elements.{Contains-append_left as append_left, Contains-append_right as append_right}
+use Rattle.std.proofs.lemmas.Option.{none-some}
 use Rattle.card_counter.specs.CounterState.{positive}
-use Rattle.des_base.proofs.Elements.{all_append, all_change, all_from, here_first, map_from, map_has}
+use Rattle.des_base.proofs.Elements.{all_from, here_first, map_from, map_has}
 use Rattle.des_base.specs.Lists.{EachPair, numbers_below}
 use Rattle.des_net.specs.Network.{Net, is_fault}
 use Rattle.fault_verdicts.proofs.Telling.{with_told, without_told}
@@ -23,18 +24,9 @@ use Rattle.run_decode.specs.Drawn.{assumption_literals}
 use Rattle.prop_core.specs.FurtherNames.{LiteralOf, holds, fails, lifted_meanings, AreOnce, IsCalled, ReadsBy, AreDrawnBy}
 use Rattle.run_decode.specs.Question.{IsNamedQuestion}
 use Rattle.step_encode.specs.FaultInputs.{event_literal, event_literals}
+use Rattle.prop_core.proofs.FurtherNames.{reads_both}
 
 -- ---- lists that read as others
-
-reads_both : {X : Type 0} (names : List (ℕ × X)) (first second : List Lit) (named other : List (LiteralOf X)) → ReadsBy names first named → ReadsBy names second other → ReadsBy names (first ++ second) (named ++ other)
-reads_both {X} names first second named other one two = record {
-  only = all_append (λ l. (m : LiteralOf X) × Contains (named ++ other) m × IsCalled names l m) first second
-      (all_change (λ l. (m : LiteralOf X) × Contains named m × IsCalled names l m) (λ l. (m : LiteralOf X) × Contains (named ++ other) m × IsCalled names l m) first (λ l is. (is.0, append_left named other is.0 is.1, is.2)) one.only)
-      (all_change (λ l. (m : LiteralOf X) × Contains other m × IsCalled names l m) (λ l. (m : LiteralOf X) × Contains (named ++ other) m × IsCalled names l m) second (λ l is. (is.0, append_right named other is.0 is.1, is.2)) two.only);
-  all = all_append (λ m. (l : Lit) × Contains (first ++ second) l × IsCalled names l m) named other
-      (all_change (λ m. (l : Lit) × Contains first l × IsCalled names l m) (λ m. (l : Lit) × Contains (first ++ second) l × IsCalled names l m) named (λ m is. (is.0, append_left first second is.0 is.1, is.2)) one.all)
-      (all_change (λ m. (l : Lit) × Contains second l × IsCalled names l m) (λ m. (l : Lit) × Contains (first ++ second) l × IsCalled names l m) other (λ m is. (is.0, append_right first second is.0 is.1, is.2)) two.all);
-}
 
 reads_one : {X : Type 0} (names : List (ℕ × X)) (l : Lit) (m : LiteralOf X) → IsCalled names l m → ReadsBy names (l ∷ []) (m ∷ [])
 reads_one names l m is = record { only = ((m, here_first m [] m refl, is), tt); all = ((l, here_first l [] l refl, is), tt) }
@@ -79,9 +71,6 @@ made_once (entry ∷ made) once = (
     literal_of (of_question meaning) = 0
     literal_of (occurs e literal) = literal
 
-some_not_none : (meaning : Meaning) → Some meaning ≡ None → ⊥
-some_not_none meaning h = cc
-
 module _ (net : Net) (log : Log) (n k : ℕ) (names : List (ℕ × Meaning)) (grid : Grid) (made : List (ℕ × ℕ)) (whole : List Clause) (assumed : List Lit) (beside : AsksBeside net log n k names grid made whole assumed) where
   once : AreOnce (verdict_meanings names made)
   once = once_further of_question question_injective names (made_meanings made) beside.asks.question.once (made_once made beside.made_new.once) (λ a b in' there.
@@ -89,7 +78,7 @@ module _ (net : Net) (log : Log) (n k : ℕ) (names : List (ℕ × Meaning)) (gr
       let none = all_at (λ (e : ℕ × ℕ). meaning_of names e.0 ≡ None) made beside.made_new.new of'.0 of'.1 in
       let has = has_name names a beside.asks.question.once in' in
       subst (λ (x : ℕ × VerdictMeaning). (a.0 ≢ x.0) × (of_question a.1 ≢ x.1)) of'.2
-      (λ same. some_not_none a.1 (sym has ∙ ap (meaning_of names) same ∙ none), λ same. absurd (other_kind same)))
+      (λ same. none-some a.1 (sym none ∙ ap (meaning_of names) (sym same) ∙ has), λ same. absurd (other_kind same)))
     where
       other_kind : {meaning : Meaning} {e literal : ℕ} → of_question meaning ≡ occurs e literal → ⊥
       other_kind same = cc

@@ -3,7 +3,6 @@ use Rattle.std.proofs.Common.{◌≡◌, ◌∙◌, ℕ, zero, suc, ◌+◌, ◌
 use Rattle.fault_verdicts.proofs.Ready.{ready_by_solver}
 use Rattle.fault_verdicts.specs.Judging.{KeepsStepsAndLog}
 use Rattle.fault_verdicts.specs.Ready.{AreReadyWith, AreReadyForVerdicts}
-use Rattle.least_faults.proofs.Closing.{marked_axioms, marked_clauses}
 use Rattle.least_faults.proofs.Columns.{keeps_both, keeps_none}
 use Rattle.least_faults.proofs.Freshness.{known_same}
 use Rattle.least_faults.proofs.Putting.{same_axioms}
@@ -22,6 +21,7 @@ use Rattle.sat_order.specs.Rank.{KeepsRanks}
 use Rattle.sat_solve.specs.Searching.{IsSearched}
 use Rattle.sat_solve.specs.Solving.{SolverState}
 use Rattle.step_encode.specs.Coded.{CodedSteps}
+use Rattle.proof_ledger.proofs.AxiomLists.{marked_axioms, marked_clauses}
 
 -- ---- the parts
 
@@ -31,9 +31,6 @@ goes_by_solver more parts solver rank = record { step = refl; code = refl; count
 
 pub goes_nowhere : {R : Type 0} (more : ℕ) (parts : Parts R) → KeepsStepsAndLog more parts parts
 goes_nowhere more parts = goes_by_solver more parts parts.solver refl
-
-pub goes_with_variable : {R : Type 0} (parts : Parts R) (vars : ℕ) (solver : SolverState R) → vars ≡ parts.vars + 1 → solver.order.rank ≡ parts.solver.order.rank → KeepsStepsAndLog 1 parts (record parts { vars = vars; solver = solver })
-goes_with_variable parts vars solver is rank = record { step = refl; code = refl; counter = keeps_none parts.counter; rank = rank; few = omega (arith, is) }
 
 one_more_row : (a b c : ℕ) → (a + b * c) + c ≡ a + suc b * c
 one_more_row a b c = grind arith

@@ -3,20 +3,19 @@ use Rattle.std.proofs.Common.{◌≡◌, ◌↔◌, ◌∙◌, ◌⊎◌, inl, i
 use Rattle.std.proofs.lemmas.Bool.{eqb-true, eq-eqb}
 use Rattle.std.specs.Bool.{beq}
 use Rattle.card_counter.specs.CounterState.{positive}
-use Rattle.des_base.proofs.Elements.{cons_cases, here_first, here_later, map_from, map_has, none_in_nil}
+use Rattle.des_base.proofs.Elements.{cons_cases, here_first, here_later, map_from, map_has, none_in_nil, any_has}
+use Rattle.des_base.proofs.BoolLemmas.{clash, beq_true}
 use Rattle.des_base.specs.Lists.{numbers_below}
 use Rattle.des_net.specs.Network.{Net}
 use Rattle.fault_verdicts.proofs.Asking.{HasPosed, IsFor}
 use Rattle.fault_verdicts.proofs.Telling.{event_of_true}
-use Rattle.fault_verdicts.proofs.Truths.{beq_true}
-use Rattle.log_clauses.proofs.Fronts.{any_has}
 use Rattle.fault_verdicts.specs.Asked.{without, with_event, IsPosedOf, asked_for, no_step_literals, some_step_clause, some_step_clauses}
 use Rattle.fault_verdicts.specs.Judged.{IsBestRun, IsVerdict, IsPossibleFound, IsAskedBeside}
 use Rattle.fault_verdicts.specs.Judging.{IsAbout, verdict_of}
 use Rattle.fault_verdicts.specs.Verdicts.{IsBest}
 use Rattle.fault_verdicts.specs.declared.answer.Verdict.TheVariants.{Possible, Open}
 use Rattle.least_faults.specs.Evidence.{HasFinal}
-use Rattle.log_clauses.proofs.Lists.{all_at, clash}
+use Rattle.log_clauses.proofs.Lists.{all_at}
 use Rattle.log_order.specs.Log.{Log}
 use Rattle.proof_ledger.specs.Book.{BookEntry}
 use Rattle.proof_ledger.specs.Fresh.{AreFresh}

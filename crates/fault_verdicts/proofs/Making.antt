@@ -10,7 +10,6 @@ use Rattle.fault_verdicts.proofs.Ready.{ready_with_literal}
 use Rattle.fault_verdicts.specs.Asked.{some_step_clause}
 use Rattle.fault_verdicts.specs.Judging.{HasMade, event_signed}
 use Rattle.fault_verdicts.specs.Ready.{AreReadyWith}
-use Rattle.least_faults.proofs.AxiomLists.{clauses_added}
 use Rattle.least_faults.proofs.Freshness.{known_after}
 use Rattle.least_faults.specs.Growing.{AddsAxioms}
 use Rattle.least_faults.specs.declared.parts.Parts.{Parts}
@@ -22,6 +21,7 @@ use Rattle.sat_order.specs.Rank.{IsRanked}
 use Rattle.sat_prop.specs.Changes.{IsFront}
 use Rattle.sat_solve.specs.Solving.{SolverState}
 use Rattle.step_encode.specs.Coded.{CodedSteps, code_grid}
+use Rattle.proof_ledger.proofs.AxiomLists.{clauses_added}
 
 -- what the loop wrote behind the new literal is the clause of the event
 pub clause_is : (steps : CodedSteps) (grid : Grid) (vars e : ℕ) (none first whole : List Lit) (l : Lit) → none ≡ [] → first ≡ none ++ l ∷ [] → l ≡ record { var = vars; positive = false } → grid ≡ code_grid steps → whole ≡ first ++ event_signed grid true e → whole ≡ some_step_clause (code_grid steps) (vars, e)

@@ -6,7 +6,7 @@ use Rattle.std.proofs.lemmas.List.Elements.{All-cons, All-from_recursion, All-ma
 use Rattle.card_counter.proofs.NameLemmas.{no_name}
 use Rattle.card_counter.proofs.States.{columns_add_meanings, made_later}
 use Rattle.card_counter.specs.CounterState.{CounterState, with_column, counter_meanings, next_meanings, positive}
-use Rattle.des_base.proofs.Elements.{all_append, all_change, all_from, cons_cases, map_from, none_in_nil}
+use Rattle.des_base.proofs.Elements.{all_append, all_change, all_from, cons_cases, map_from, none_in_nil, pairs_append}
 use Rattle.des_base.specs.Lists.{numbers_below}
 use Rattle.des_base.specs.declared.TheConstants.{MOST_COLUMNS}
 use Rattle.des_net.specs.Network.{Net, is_fault}
@@ -15,7 +15,6 @@ use Rattle.fault_verdicts.specs.Asked.{some_step_clause, some_step_clauses}
 use Rattle.fault_verdicts.specs.Judging.{event_signed, signed_literal}
 use Rattle.fault_verdicts.specs.Ready.{AreReadyWith}
 use Rattle.fault_verdicts.specs.Telling.{AreMade, IsEventGrid}
-use Rattle.least_faults.proofs.AxiomLists.{axioms_added}
 use Rattle.least_faults.proofs.Below.{room_names_below}
 use Rattle.least_faults.proofs.Beside.{beside, clauses_still}
 use Rattle.least_faults.proofs.ColumnsBuilt.{vars_grow}
@@ -25,7 +24,7 @@ use Rattle.least_faults.specs.Parts.{AreReady, AreReadyBeside, BelongTo, HaveRoo
 use Rattle.least_faults.specs.declared.TheConstants.{MOST_SIZE}
 use Rattle.least_faults.specs.declared.parts.Parts.{Parts}
 use Rattle.log_clauses.proofs.Codes.{has_name, named_entry}
-use Rattle.log_clauses.proofs.Lists.{all_at, pairs_append}
+use Rattle.log_clauses.proofs.Lists.{all_at}
 use Rattle.log_encode.specs.CodedLog.{CodedLog, log_meanings}
 use Rattle.log_order.specs.Log.{Log}
 use Rattle.proof_ledger.specs.Book.{BookEntry, axiomatic, axioms_of, clauses_of}
@@ -48,6 +47,7 @@ use Rattle.sat_solve.specs.Solving.{SolverState}
 use Rattle.step_encode.proofs.Codes.{event_named}
 use Rattle.step_encode.specs.Coded.{CodedSteps, code_meanings, code_grid}
 use Rattle.step_encode.specs.FaultInputs.{event_literals}
+use Rattle.proof_ledger.proofs.AxiomLists.{axioms_added}
 
 -- ---- variables without a name
 

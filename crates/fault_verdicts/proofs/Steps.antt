@@ -2,10 +2,9 @@
 use Rattle.std.proofs.Common.{◌≡◌, ◌∙◌, ◌⊎◌, inl, inr, ℕ, zero, suc, ◌+◌, ◌<◌, ◌==◌, Bool, true, false, ◌||◌, List, [], ◌∷◌, length, take, sym, ap, subst, arith, Contains, get_or}
 use Rattle.std.proofs.lemmas.Bool.{eq-eqb, eqb-true}
 use Rattle.std.specs.List.{list_any}
-use Rattle.des_base.proofs.BoolLemmas.{neither, or_right}
+use Rattle.des_base.proofs.BoolLemmas.{neither, or_right, clash}
 use Rattle.des_base.proofs.Elements.{cons_cases, here_first, here_later, none_in_nil}
 use Rattle.fault_verdicts.specs.Judging.{has_this}
-use Rattle.log_clauses.proofs.Lists.{clash}
 use Rattle.replay.specs.Traced.{event_of, word_of}
 use Rattle.replay.specs.declared.run.RunStep.{RunStep}
 use Rattle.replay.specs.declared.run.RunStep.TheVariants.{Happens, Dropped}

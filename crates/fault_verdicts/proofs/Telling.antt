@@ -1,14 +1,14 @@
 -- A question with what was made for verdicts beside it tells which explanations have an event, and which haven't.
-use Rattle.std.proofs.Common.{◌≡◌, ◌≢◌, ◌∙◌, ◌⊎◌, inl, inr, ℕ, suc, ◌<◌, Bool, true, false, not, ◌||◌, ◌==◌, List, [], ◌∷◌, ◌++◌, length, Some, None, refl, sym, ap, subst, Contains, IsTrue}
+use Rattle.std.proofs.Common.{◌≡◌, ◌≢◌, ◌∙◌, ◌⊎◌, inl, inr, ℕ, suc, ◌<◌, Bool, true, false, not, ◌==◌, List, [], ◌∷◌, ◌++◌, length, Some, None, refl, sym, ap, subst, Contains, IsTrue}
 use Rattle.std.specs.Bool.{beq}
 use Rattle.std.proofs.lemmas.Bool.{eqb-true, eq-eqb}
 use Rattle.std.specs.List.{list_any}
 use Rattle.card_counter.specs.CounterState.{positive}
 use Rattle.des_base.specs.Lists.{EachPair, numbers_below}
 use Rattle.des_net.specs.Network.{Net, IsNetwork}
-use Rattle.des_base.proofs.BoolLemmas.{either as or_cases, otherwise as as_false}
+use Rattle.des_base.proofs.BoolLemmas.{either as or_cases, otherwise as as_false, clash, beq_true, beq_false, or_left, or_right}
 use Rattle.des_base.proofs.Elements.{all_append, all_from as all_of, cons_cases, map_from, map_has, none_in_nil}
-use Rattle.log_clauses.proofs.Lists.{all_at, clash}
+use Rattle.log_clauses.proofs.Lists.{all_at}
 use Rattle.log_order.specs.Log.{Log, IsValidLog}
 use Rattle.prop_core.proofs.NameLemmas.{values_match, assignments_match}
 use Rattle.prop_core.specs.Clauses.{Clause, negation, literal_true, clause_true, AllClausesTrue, AllLiteralsTrue}
@@ -22,7 +22,7 @@ use Rattle.run_decode.proofs.Tells.{ridden_tells, consistent_by, unnamed, guards
 use Rattle.run_decode.specs.Faithful.{MakesTrue}
 use Rattle.run_decode.specs.Tells.{Rides, SaysOfWords, Tells}
 use Rattle.step_encode.specs.FaultInputs.{event_literal, event_literals}
-use Rattle.fault_verdicts.proofs.Truths.{beq_true, beq_false, happened, happening, event_is, some_true, true_some}
+use Rattle.fault_verdicts.proofs.Truths.{happened, happening, event_is, some_true, true_some}
 use Rattle.fault_verdicts.specs.Asked.{asked_for, without, with_event, some_step_clause, some_step_clauses, no_step_literals}
 use Rattle.fault_verdicts.specs.Telling.{IsEventGrid, AreMade, AsksBeside}
 
@@ -47,21 +47,13 @@ somewhere_says net log n e known value pieces order are false' = (
 
 -- ---- the clauses of variables that were made
 
-or_true_left : (a b : Bool) → a ≡ true → a || b ≡ true
-or_true_left true b h = refl
-or_true_left false b h = cc
-
-or_true_right : (a b : Bool) → b ≡ true → a || b ≡ true
-or_true_right true b h = refl
-or_true_right false b h = h
-
 -- where the variable is false the clause is true
 false_variable : (assignment : ℕ → Bool) (grid : Grid) (entry : ℕ × ℕ) → assignment entry.0 ≡ false → clause_true assignment (some_step_clause grid entry) ≡ true
-false_variable assignment grid entry is = or_true_left (beq (assignment entry.0) false) (list_any (literal_true assignment) (event_literals grid entry.1)) (beq_false (assignment entry.0) ∙ ap not is)
+false_variable assignment grid entry is = or_left (beq (assignment entry.0) false) (list_any (literal_true assignment) (event_literals grid entry.1)) (beq_false (assignment entry.0) ∙ ap not is)
 
 -- and where an event of the grid is true
 true_event : (assignment : ℕ → Bool) (grid : Grid) (entry : ℕ × ℕ) → list_any (literal_true assignment) (event_literals grid entry.1) ≡ true → clause_true assignment (some_step_clause grid entry) ≡ true
-true_event assignment grid entry is = or_true_right (beq (assignment entry.0) false) (list_any (literal_true assignment) (event_literals grid entry.1)) is
+true_event assignment grid entry is = or_right (beq (assignment entry.0) false) (list_any (literal_true assignment) (event_literals grid entry.1)) is
 
 pub event_of_true : (assignment : ℕ → Bool) (grid : Grid) (entry : ℕ × ℕ) → clause_true assignment (some_step_clause grid entry) ≡ true → assignment entry.0 ≡ true → list_any (literal_true assignment) (event_literals grid entry.1) ≡ true
 event_of_true assignment grid entry clause is = by (or_cases (beq (assignment entry.0) false) (list_any (literal_true assignment) (event_literals grid entry.1)) clause)

@@ -1,12 +1,11 @@
 -- The truth of the events of steps, by name and by variable.
-use Rattle.std.proofs.Common.{◌≡◌, ◌∙◌, ◌⊎◌, inl, inr, ℕ, zero, suc, ◌+◌, ◌<◌, Bool, true, false, not, List, [], ◌∷◌, length, refl, sym, ap, subst, arith, Contains}
-use Rattle.std.specs.Bool.{beq}
+use Rattle.std.proofs.Common.{◌≡◌, ◌∙◌, ◌⊎◌, inl, inr, ℕ, zero, suc, ◌+◌, ◌<◌, Bool, true, List, [], ◌∷◌, length, sym, ap, subst, arith, Contains}
 use Rattle.std.specs.List.{list_any}
 use Rattle.des_net.specs.Network.{Net}
 use Rattle.des_net.specs.Width.{joined}
-use Rattle.des_base.proofs.Elements.{map_from, map_has, none_in_nil}
+use Rattle.des_base.proofs.Elements.{map_from, map_has, none_in_nil, any_has, has_any}
+use Rattle.des_base.proofs.BoolLemmas.{beq_true}
 use Rattle.std.proofs.lemmas.List.Elements.{Contains-append_cases as append_cases, Contains-append_left as append_left, Contains-append_right as append_right}
-use Rattle.log_clauses.proofs.Fronts.{any_has, has_any}
 use Rattle.log_clauses.proofs.Pieces.{AreFrom, pieces_are_steps}
 use Rattle.prop_core.specs.Clauses.{literal_true}
 use Rattle.prop_core.specs.NamedClauses.{Match}
@@ -17,16 +16,6 @@ use Rattle.step_encode.specs.FaultInputs.{event_literal, event_literals}
 use Rattle.run_clauses.proofs.Lists.{in_numbers, from_numbers}
 use Rattle.des_base.specs.Lists.{numbers_below}
 use Rattle.fault_verdicts.specs.Telling.{IsEventGrid}
-
--- ---- truth values
-
-pub beq_true : (b : Bool) → beq b true ≡ b
-beq_true true = refl
-beq_true false = refl
-
-pub beq_false : (b : Bool) → beq b false ≡ not b
-beq_false true = refl
-beq_false false = refl
 
 -- ---- in the steps
 

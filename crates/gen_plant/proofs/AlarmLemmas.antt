@@ -87,12 +87,6 @@ named_alarm : (old log : Log) (unit : ℕ) (name label : List ℕ) → name ≡ 
 named_alarm old log unit name label called labelled is =
     is ∙ ap (λ text. with_alarm old text (label ∷ []) false) called ∙ ap (λ text. with_alarm old (alarm_name unit) (text ∷ []) false) labelled
 
-pub first_added : (old log : Log) (unit : ℕ) (name label : List ℕ) → name ≡ alarm_name unit → label ≡ trip_label unit → 0 ≡ length old.alarms → old.pairs ≡ in_a_row (length old.alarms)
-    → log ≡ with_alarm old name (label ∷ []) false → log ≡ with_tripped old unit
-first_added old log unit name label called labelled none in_row is =
-    let pairs : old.pairs ≡ in_a_row (length old.alarms + 1) = in_row ∙ ap in_a_row (sym none) ∙ ap (λ n. in_a_row (n + 1)) none in
-    named_alarm old log unit name label called labelled is ∙ ap (λ ps. (a_log (old.alarms ++ trip_alarm unit ∷ []) ps)) pairs
-
 pub next_added : (old log new : Log) (unit first second : ℕ) (name label : List ℕ) → name ≡ alarm_name unit → label ≡ trip_label unit → second ≡ length old.alarms → first + 1 ≡ second
     → old.pairs ≡ in_a_row (length old.alarms) → log ≡ with_alarm old name (label ∷ []) false → new ≡ record log { pairs = with_pair log.pairs first second } → new ≡ with_tripped old unit
 next_added old log new unit first second name label called labelled at next in_row is is_new =

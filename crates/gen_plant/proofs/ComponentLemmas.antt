@@ -15,6 +15,7 @@ use Rattle.gen_plant.specs.Plant.{most_units, units, bus_component, unit_compone
 use Rattle.gen_plant.specs.Stages.{with_component_at, unit_without_moves, first_components}
 use Rattle.gen_plant.proofs.Lists.{units_below, absent_map, last_there, last_set}
 use Rattle.gen_plant.proofs.NameLemmas.{other_numeral}
+use Rattle.des_net.proofs.DraftLemmas.{trans_count-none}
 
 -- ---- a component as it is built
 
@@ -61,10 +62,6 @@ count_cons x xs = sum_by-cons (λ (c : Component). length c.transitions) x xs
 count_push : (xs : List Component) (x : Component) → trans_count (xs ++ x ∷ []) ≡ trans_count xs + length x.transitions
 unfolding trans_count
 count_push xs x = sum_by_push (λ (c : Component). length c.transitions) xs x
-
-count_none : trans_count [] ≡ 0
-unfolding trans_count
-count_none = refl
 
 count_set : (xs : List Component) (k : ℕ) (y : Component) → trans_count (slice_set xs k y) ≤ trans_count xs + length y.transitions
 count_set [] k y = omega arith
@@ -173,12 +170,12 @@ pub bus_few : (net named : Net) (name : List ℕ) → net ≡ no_net → named �
 bus_few net named name is is_named =
     let first = ap (λ (x : Net). trans_count x.components) is in
     let second = ap (λ (x : Net). trans_count x.components) is_named ∙ count_push net.components no_component in
-    omega (arith, first, second, count_none)
+    omega (arith, first, second, trans_count-none)
 
 -- ---- one more unit
 
 units_count : (a n : ℕ) → trans_count (map (λ i. unit_component) (range_with_len a n)) ≡ 3 * n
-units_count a zero = omega (arith, count_none)
+units_count a zero = omega (arith, trans_count-none)
 units_count a (suc n) = omega (arith, count_cons unit_component (map (λ i. unit_component) (range_with_len (a + 1) n)), units_count (a + 1) n)
 
 first_count : (n : ℕ) → trans_count (first_components n).components ≡ 1 + 3 * n

@@ -107,12 +107,6 @@ all_three net unit =
     let fix : Event = record { parts = takes unit 2 ∷ []; label = Some (fix_label unit); fault = false } in
     λ i. record net { event_names = three net.event_names (jam_name unit) (trip_name unit) (fix_name unit) i; events = three net.events jam trip fix i }
 
-pub unit_events_added : (net jammed tripped new : Net) (unit : ℕ) → jammed ≡ after_jam net unit → tripped ≡ with_event jammed (trip_name unit) (takes unit 1 ∷ takes 0 0 ∷ []) (Some (trip_label unit)) false
-    → new ≡ with_event tripped (fix_name unit) (takes unit 2 ∷ []) (Some (fix_label unit)) false → new ≡ with_unit_events net unit
-unit_events_added net jammed tripped new unit is_jammed is_tripped is_new =
-    let second : tripped ≡ after_trip net unit = is_tripped ∙ ap (λ (x : Net). with_event x (trip_name unit) (takes unit 1 ∷ takes 0 0 ∷ []) (Some (trip_label unit)) false) is_jammed in
-    is_new ∙ ap (λ (x : Net). with_event x (fix_name unit) (takes unit 2 ∷ []) (Some (fix_label unit)) false) second ∙ all_three net unit
-
 pub events_more : (z done : ℕ) → with_unit_events (first_events z done) (done + 1) ≡ first_events z (done + 1)
 events_more z done =
     let names : flat_map event_names_of (units (done + 1)) ≡ flat_map event_names_of (units done) ++ event_names_of (done + 1) = ap (flat_map event_names_of) (units_more done) ∙ flat_map-append event_names_of (units done) ((done + 1) ∷ []) in

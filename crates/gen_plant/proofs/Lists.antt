@@ -45,9 +45,6 @@ pub absent_flat : (text : List ℕ) (f : ℕ → List (List ℕ)) (xs : List ℕ
 absent_flat text f [] h = refl
 absent_flat text f (x ∷ xs) h = absent_append text (f x) (flat_map f xs) h.0 (absent_flat text f xs h.1)
 
-pub absent_one : (text x : List ℕ) → bytes_eq text x ≡ false → place_of text (x ∷ []) ≡ None
-absent_one text x h = none_join (bytes_eq text x) None h refl
-
 -- ---- the last of a list
 
 pub last_there : {X : Type 0} (xs : List X) (x : X) → slice_get (xs ++ x ∷ []) (length xs) ≡ Some x

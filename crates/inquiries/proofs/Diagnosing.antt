@@ -3,9 +3,8 @@ use Rattle.std.proofs.Common.{◌≡◌, ◌≤◌, ℕ, List, [], ◌++◌, len
 use Rattle.std.specs.Result.{result_ok}
 use Rattle.des_base.specs.declared.TheConstants.{MOST_STEPS}
 use Rattle.des_net.specs.Network.{Net}
-use Rattle.least_faults.proofs.AxiomLists.{adds_both, axioms_added}
+use Rattle.least_faults.proofs.AxiomLists.{adds_both}
 use Rattle.least_faults.proofs.Freshness.{fresh_axioms, fresh_both}
-use Rattle.least_faults.proofs.Putting.{none_learnt}
 use Rattle.least_faults.specs.declared.answer.Found.{Found}
 use Rattle.least_faults.specs.declared.parts.Parts.{Parts}
 use Rattle.least_faults.specs.Answers.{HaveLearntFresh, IsAnswered}
@@ -23,6 +22,7 @@ use Rattle.run_decode.specs.QuestionAxioms.{BuiltQuestion, question_axioms, ques
 use Rattle.sat_solve.specs.Solving.{SolverState}
 use Rattle.inquiries.specs.Begun.{HasAxiomsAlone, HasBegun, HasLearntWithin, HasQuestion}
 use Rattle.inquiries.specs.Diagnosed.{IsDiagnosed}
+use Rattle.proof_ledger.proofs.AxiomLists.{axioms_added, none_learnt}
 
 -- what is built is what was answered
 pub ok_some : {A B : Type 0} (r : Result A B) (P : A → Type 0) (a : A) → Some a ≡ result_ok r → IfOk r P → P a

@@ -7,7 +7,7 @@ use Rattle.std.proofs.lemmas.List.Elements.{All-from_recursion, All-head, All-ta
 use Rattle.card_counter.specs.CounterState.{CounterState}
 use Rattle.des_base.proofs.Elements.{all_append, all_split}
 use Rattle.des_net.specs.Network.{Net, IsNetwork}
-use Rattle.least_faults.proofs.AxiomLists.{axioms_added, clauses_added, adds_both}
+use Rattle.least_faults.proofs.AxiomLists.{adds_both}
 use Rattle.least_faults.proofs.Assuming.{assumed_below}
 use Rattle.least_faults.proofs.Below.{axioms_below}
 use Rattle.least_faults.proofs.Posing.{poses, asks_poses}
@@ -37,6 +37,7 @@ use Rattle.run_decode.specs.WholeNaming.{whole_meanings}
 use Rattle.step_encode.specs.Coded.{CodedSteps}
 use Rattle.inquiries.proofs.Diagnosing.{axioms_alone}
 use Rattle.inquiries.specs.Formula.{IsFormulaOf, IsSatisfiable, bound_within, counted_bound, question_assumed, question_formula, question_within}
+use Rattle.proof_ledger.proofs.AxiomLists.{axioms_added, clauses_added}
 
 -- ---- what makes it true
 

@@ -7,9 +7,10 @@ use Rattle.least_faults.specs.Evidence.{is_final}
 use Rattle.proof_ledger.specs.Book.{BookEntry, axiomatic, learnt, final, mark, shown, IsEntryAt}
 use Rattle.proof_ledger.specs.declared.entry.Entry.{Entry}
 use Rattle.proof_ledger.specs.declared.entry.Entry.TheVariants.{Final}
-use Rattle.proof_text.proofs.Fronts.{Seen, number_at, seen_at, take_at}
+use Rattle.proof_text.proofs.Fronts.{Seen, number_at, seen_at}
 use Rattle.prop_core.specs.Clauses.{Clause}
 use Rattle.inquiries.specs.Refuted.{IsLastFinal}
+use Rattle.des_base.proofs.Elements.{take_at}
 
 -- ---- entry by entry
 

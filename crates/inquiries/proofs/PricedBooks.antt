@@ -1,11 +1,8 @@
 -- The book that a question of costs leaves, as a whole.
-use Rattle.std.proofs.Common.{◌≡◌, ◌∙◌, ◌<◌, ◌≤◌, ◌+◌, ◌*◌, ◌^◌, ◌⊎◌, inl, inr, ℕ, Bool, true, false, List, [], ◌∷◌, ◌++◌, map, length, Option, refl, sym, ap, subst, arith, append-nil, append_assoc, Contains, ◌==◌, count_by}
-use Rattle.std.specs.Prelude.{All}
+use Rattle.std.proofs.Common.{◌≡◌, ◌∙◌, ◌<◌, ◌≤◌, ◌+◌, ◌*◌, ◌^◌, inl, inr, ℕ, true, List, [], ◌∷◌, ◌++◌, map, Option, sym, ap, subst, arith, Contains, count_by}
 use Rattle.std.specs.List.{AllByRecursion, list_any}
 use Rattle.std.proofs.Math.Nat.{pow-le-pow_right}
-use Rattle.std.proofs.lemmas.Bool.{eqb-true}
-use Rattle.std.proofs.lemmas.List.Elements.{All-nil, All-cons, All-head, All-tail, filter_map-append}
-use Rattle.std.proofs.lemmas.List.FromFn.{length-range_with_len, get_or-range_with_len}
+use Rattle.std.proofs.lemmas.List.FromFn.{length-range_with_len}
 use Rattle.cost_least.proofs.Fitting.{first_few, inputs_below, inputs_counted}
 use Rattle.cost_least.proofs.SameCosts.{same_answered, same_parts}
 use Rattle.cost_least.specs.Weighed.{AreWeighedParts}
@@ -13,17 +10,16 @@ use Rattle.cost_least.specs.declared.answer.Cheap.{Cheap}
 use Rattle.cost_least.specs.declared.answer.Cheap.TheVariants.{Undecided}
 use Rattle.cost_least.specs.declared.answer.Priced.{Priced}
 use Rattle.card_counter.specs.CounterState.{CounterState}
-use Rattle.des_base.proofs.Elements.{all_append, all_at}
+use Rattle.des_base.proofs.Elements.{all_append, all_at, any_has, all_change}
 use Rattle.des_base.specs.Lists.{numbers_below}
 use Rattle.des_net.specs.Network.{Net}
 use Rattle.des_net.specs.QuestionSize.{fault_event_count}
 use Rattle.least_faults.proofs.Below.{axioms_below}
 use Rattle.least_faults.proofs.FreshCount.{fresh_below}
 use Rattle.least_faults.specs.Bounds.{question_variables}
-use Rattle.log_clauses.proofs.Fronts.{any_has}
 use Rattle.log_encode.specs.CodedLog.{CodedLog}
 use Rattle.log_order.specs.Log.{Log}
-use Rattle.proof_ledger.specs.Book.{BookEntry, axiomatic, mark, axiom_of, axioms_of}
+use Rattle.proof_ledger.specs.Book.{BookEntry, axiomatic, mark, axioms_of}
 use Rattle.proof_ledger.specs.Fresh.{is_learnt, occurs}
 use Rattle.prop_core.specs.Clauses.{Clause, HasValues}
 use Rattle.prop_core.specs.Trail.{has_var}
@@ -34,6 +30,9 @@ use Rattle.weight_counter.proofs.Small.{scales_are_small}
 use Rattle.weight_counter.specs.Scales.{place_variable, scale_clauses}
 use Rattle.weight_counter.specs.declared.scale.Scale.{Scale}
 use Rattle.inquiries.specs.LeastCost.{CostAlike, HasCostQuestion, IsPricedBy, LeavesCosts, cost_variables}
+use Rattle.proof_ledger.proofs.AxiomLists.{axioms_between}
+use Rattle.prop_core.proofs.Literals.{below_var, wider}
+use Rattle.run_clauses.proofs.Lists.{in_numbers}
 
 -- ---- with costs that the fault events have alike
 
@@ -59,38 +58,17 @@ leaves_alike net a b alike log n budget book (inr (answer, h)) = inr (answer, pr
 
 -- ---- variables below a number
 
-more_values : (few more : ℕ) (clause : Clause) → few ≤ more → HasValues few clause → HasValues more clause
-more_values few more [] less all = All-nil (λ l. l.var < more)
-more_values few more (l ∷ clause) less all =
-    let first = All-head (λ m. m.var < few) l clause all in
-    All-cons (λ m. m.var < more) l clause (omega (arith, less, first)) (more_values few more clause less (All-tail (λ m. m.var < few) l clause all))
-
-more_below : (few more : ℕ) (clauses : List Clause) → few ≤ more → AllByRecursion (HasValues few) clauses → AllByRecursion (HasValues more) clauses
-more_below few more [] less all = tt
-more_below few more (clause ∷ clauses) less all = (more_values few more clause less all.0, more_below few more clauses less all.1)
-
-below_var : (count var : ℕ) (clause : Clause) → HasValues count clause → has_var var clause ≡ true → var < count
-below_var count var [] below there = cc
-below_var count var (l ∷ clause) below there = by (l.var == var) refl (below_var count var clause (All-tail (λ m. m.var < count) l clause below))
-  where
-    by : (b : Bool) → (l.var == var) ≡ b → (has_var var clause ≡ true → var < count) → var < count
-    by true e later = subst (λ v. v < count) (eqb-true l.var var e) (All-head (λ m. m.var < count) l clause below)
-    by false e later = later (rw e at there)
-
-among_numbers : (count var : ℕ) → var < count → Contains (numbers_below count) var
-among_numbers count var below = (var, omega (arith, length-range_with_len 0 count), omega (arith, get_or-range_with_len 0 count var var below))
-
-known_below : (count : ℕ) (clauses : List Clause) → AllByRecursion (HasValues count) clauses → (var : ℕ) → list_any (has_var var) clauses ≡ true → Contains (numbers_below count) var
+pub known_below : (count : ℕ) (clauses : List Clause) → AllByRecursion (HasValues count) clauses → (var : ℕ) → list_any (has_var var) clauses ≡ true → Contains (numbers_below count) var
 known_below count clauses below var there =
     let some = any_has (has_var var) clauses there in
-    among_numbers count var (below_var count var some.0 (all_at (HasValues count) clauses some.0 below some.1) some.2)
+    in_numbers count var (below_var count some.0 var (all_at (HasValues count) clauses some.0 below some.1) some.2)
 
 -- ---- those of a question of costs
 
 weighed_below : (cost : ℕ → ℕ) (steps : CodedSteps) (code : CodedLog) (counter : CounterState) (vars : ℕ) (axioms : List Clause) (scale : Scale) → AreWeighedParts cost steps code counter vars axioms scale → AllByRecursion (HasValues vars) axioms
 weighed_below cost steps code counter vars axioms scale h =
     let vars_are = h.vars_are in
-    let own = more_below scale.first vars h.own (omega (arith, vars_are)) (axioms_below steps code counter scale.first h.own h.coded) in
+    let own = all_change (HasValues scale.first) (HasValues vars) h.own (λ clause. wider scale.first vars clause (omega (arith, vars_are))) (axioms_below steps code counter scale.first h.own h.coded) in
     let weighing = (scales_are_small scale h.inputs h.counted (inputs_below cost steps code counter scale.first h.own h.inputs h.coded h.weighted)).known in
     let clauses = scale_clauses (place_variable scale) scale.amounts h.inputs in
     subst (AllByRecursion (HasValues vars)) (sym h.whole) (all_append (HasValues vars) h.own clauses own (subst (λ v. AllByRecursion (HasValues v) clauses) (sym vars_are) weighing))
@@ -104,18 +82,13 @@ few_variables net cost log n book h =
     let places = w.vars_are ∙ ap (λ k. h.scale.first + k * h.scale.amounts) (w.counted ∙ count) ∙ ap (λ k. h.scale.first + (n * fault_event_count net + doubtful_count log) * k) w.amounts in
     omega (arith, places, first)
 
--- marks are no axioms
-marked_axioms : (old since : List BookEntry) → axioms_of (old ++ mark 0 ∷ since ++ mark 1 ∷ []) ≡ axioms_of ((old ++ mark 0 ∷ []) ++ since)
-marked_axioms old since =
-    filter_map-append axiom_of (old ++ mark 0 ∷ since) (mark 1 ∷ []) ∙ append-nil (axioms_of (old ++ mark 0 ∷ since)) ∙ ap axioms_of (sym (append_assoc old (mark 0 ∷ []) since))
-
 -- a budget that leaves it undecided is small
 pub unpriced_is_small : (net : Net) (cost : ℕ → ℕ) (log : Log) (n budget : ℕ) (book : List BookEntry) (lo : ℕ) (best : Option Priced) → IsPricedBy net cost log n budget book (Undecided lo best) → budget < 3 ^ cost_variables net log n
 unpriced_is_small net cost log n budget book lo best h =
     let since = h.answered.since in
     let old = map axiomatic (question_axioms net log n 0) in
     let count = h.question.vars in
-    let same = ap axioms_of h.answered.whole ∙ marked_axioms old since in
+    let same = ap axioms_of h.answered.whole ∙ axioms_between old since in
     let all = subst (AllByRecursion (HasValues count)) same (weighed_below cost _ _ _ count (axioms_of book) h.question.scale h.question.weighed) in
     let known = λ (var : ℕ) (there : occurs var ((old ++ mark 0 ∷ []) ++ since) ≡ true). known_below count (axioms_of ((old ++ mark 0 ∷ []) ++ since)) all var there in
     let small = fresh_below (numbers_below count) (old ++ mark 0 ∷ []) since (count_by is_learnt since) known h.answered.fresh in

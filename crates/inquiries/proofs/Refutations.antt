@@ -1,5 +1,5 @@
 -- The refutation that a search leaves in its book: what it assumes, and what it refutes.
-use Rattle.std.proofs.Common.{◌≡◌, ◌∙◌, ◌⊎◌, inl, inr, ℕ, zero, suc, ◌+◌, ◌-◌, ◌<◌, Bool, true, false, List, [], ◌∷◌, ◌++◌, length, map, nat_eq, Option, Some, None, IfSome, Result, Ok, Err, IfOk, refl, sym, ap, subst, append-nil, append_assoc, arith, Contains, option_map}
+use Rattle.std.proofs.Common.{◌≡◌, ◌∙◌, ◌⊎◌, inl, inr, ℕ, zero, suc, ◌+◌, ◌-◌, ◌<◌, Bool, true, false, List, [], ◌∷◌, ◌++◌, length, map, nat_eq, Option, Some, None, IfSome, Result, Ok, Err, IfOk, refl, sym, ap, subst, append-nil, append_assoc, arith, Contains}
 use Rattle.std.specs.Prelude.{All, IsTrue, ◌||◌, if◌then◌else◌}
 use Rattle.std.specs.List.{AllByRecursion, flat_map, list_any, range_with_len}
 use Rattle.std.proofs.lemmas.Bool.Decides.{nat_tests}
@@ -10,7 +10,6 @@ use Rattle.card_counter.specs.CounterState.{CounterState, bound_literal, column_
 use Rattle.des_base.proofs.Elements.{all_at, all_from, cons_cases, here_first, map_from, map_has, none_in_nil, take_whole}
 use Rattle.des_base.specs.Lists.{numbers_below}
 use Rattle.des_net.specs.Network.{Net, IsNetwork}
-use Rattle.least_faults.proofs.AxiomLists.{axioms_added, clauses_added}
 use Rattle.least_faults.proofs.ColumnsBuilt.{question_within_bound}
 use Rattle.least_faults.specs.declared.answer.Found.{Found}
 use Rattle.least_faults.specs.declared.answer.Found.TheVariants.{Explained, Absent, Many, Undecided}
@@ -21,6 +20,7 @@ use Rattle.least_faults.specs.Columns.{built_within, columns_for}
 use Rattle.least_faults.specs.Evidence.{HasLastFinal, IsEvidence, IsPosed, is_final}
 use Rattle.least_faults.specs.Parts.{AreReady, BelongTo, IsBuilt, meanings_of_parts}
 use Rattle.log_clauses.proofs.Codes.{IsReadOf, named_entry, read_of}
+use Rattle.log_clauses.proofs.Guards.{literal_named}
 use Rattle.log_encode.specs.CodedLog.{CodedLog, log_meanings, read_meanings, without_names}
 use Rattle.log_order.specs.Log.{Log, IsValidLog}
 use Rattle.proof_ledger.specs.Book.{BookEntry, axiomatic, final, mark, axiom_of, axioms_of, clause_of, clauses_of}
@@ -33,7 +33,7 @@ use Rattle.proof_text.specs.Refutation.{EndsIn, front_to, refuted_formula, refut
 use Rattle.prop_core.proofs.Listed.{clause_written}
 use Rattle.prop_core.specs.Clauses.{Clause, HasValues, NegatesOnly, negation, literal_true, AllLiteralsTrue}
 use Rattle.prop_core.specs.Listings.{literal_by}
-use Rattle.prop_core.specs.VariableNames.{Meaning, NamedLiteral, HasEachOnce, ReadsAs, meaning_of, named_clause, named_literal, no, reaches}
+use Rattle.prop_core.specs.VariableNames.{Meaning, NamedLiteral, HasEachOnce, ReadsAs, named_clause, named_literal, no, reaches}
 use Rattle.prop_core.specs.declared.lit.Lit.{Lit}
 use Rattle.run_decode.proofs.Built.{columns_are_counted}
 use Rattle.run_decode.proofs.Nameless.{nameless_inputs}
@@ -49,6 +49,7 @@ use Rattle.inquiries.specs.Refuted.{HasBoundColumn, HasEvidence, HasEvidenceFor,
 use Rattle.inquiries.proofs.Formulas.{posed_by}
 use Rattle.inquiries.proofs.LastFinals.{has_final, last_found}
 use Rattle.std.proofs.Math.ListN.{get_or-append}
+use Rattle.proof_ledger.proofs.AxiomLists.{axioms_added, clauses_added}
 
 -- ---- what reads as the same literals is the same
 
@@ -116,17 +117,6 @@ read_here names (l ∷ clause) read m h in' = by (cons (subst (λ r. Contains r 
     by (inl is) later = record { l = l; is = parts.literal ∙ ap Some is }
     by (inr rest) later = later rest
 
--- its variable has that name
-named_var : (names : List (ℕ × Meaning)) (l : Lit) (m : NamedLiteral) → named_literal names l ≡ Some m → meaning_of names l.var ≡ Some m.meaning
-named_var names l m h = by (meaning_of names l.var) h
-  where
-    by : (o : Option Meaning) → option_map (λ (meaning : Meaning). let x : NamedLiteral = record { meaning = meaning; positive = l.positive } in x) o ≡ Some m → o ≡ Some m.meaning
-    by None e = cc
-    by (Some meaning) e = ap Some (ap (λ (x : NamedLiteral). x.meaning) (same (record { meaning = meaning; positive = l.positive }) m e))
-      where
-        same : (a b : NamedLiteral) → Some a ≡ Some b → a ≡ b
-        same a b q = cc
-
 reach_in_counter : (steps : CodedSteps) (code : CodedLog) (counter : CounterState) → AreCodedTogether steps code counter → (var i j : ℕ) → Contains (whole_meanings steps code counter) (var, reaches i (suc j)) → j < length counter.columns
 reach_in_counter steps code counter together var i j in' = by (Contains-append_cases (code_meanings steps) (log_meanings code ++ counter_meanings counter) (var, reaches i (suc j)) in')
   where
@@ -182,7 +172,7 @@ column_there steps code counter log b assumed together same some reads = by (len
         (subst (λ (k : ℕ). Contains (at_most k b) literal) (sym is) (here_first literal [] literal refl)) in
         let found = read_here (whole_meanings steps code counter) assumed reads.read literal reads.by_name ((reads.same literal).1 asked) in
         reach_in_counter steps code counter together found.l.var (suc m) b
-        (named_entry (whole_meanings steps code counter) found.l.var (reaches (suc m) (suc b)) (named_var (whole_meanings steps code counter) found.l literal found.is))
+        (named_entry (whole_meanings steps code counter) found.l.var (reaches (suc m) (suc b)) (literal_named (whole_meanings steps code counter) found.l literal found.is))
 
 -- ---- what is assumed is what network, log, n and the bound determine
 

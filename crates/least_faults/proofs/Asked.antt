@@ -14,7 +14,7 @@ use Rattle.least_faults.proofs.Entailing.{final_entailed}
 use Rattle.least_faults.proofs.Freshness.{fresh_after, fresh_axioms}
 use Rattle.least_faults.proofs.KnownVariables.{book_below, known_back}
 use Rattle.least_faults.proofs.Posing.{poses}
-use Rattle.least_faults.proofs.Putting.{none_learnt, none_marked, none_final, derived_unmarked, same_axioms, learnt_no_final, no_final_in, none_joined, only_final, same_last, axioms_with_learnt}
+use Rattle.least_faults.proofs.Putting.{none_marked, none_final, derived_unmarked, same_axioms, learnt_no_final, no_final_in, none_joined, only_final, same_last, axioms_with_learnt}
 use Rattle.least_faults.proofs.Staying.{question_both, question_kept}
 use Rattle.least_faults.specs.declared.answer.Best.{Best}
 use Rattle.least_faults.specs.declared.asking.Asked.{Asked}
@@ -46,6 +46,7 @@ use Rattle.std.proofs.lemmas.List.Elements.{Contains-append_cases as append_case
 use Rattle.run_decode.proofs.Faults.{count_append}
 use Rattle.run_decode.specs.WholeNaming.{whole_meanings}
 use Rattle.step_encode.specs.Coded.{CodedSteps}
+use Rattle.proof_ledger.proofs.AxiomLists.{none_learnt}
 
 -- ---- what is put
 

@@ -1,5 +1,5 @@
 -- What a question assumes: variables that were made, no contradiction, and the same where the counter gets a column.
-use Rattle.std.proofs.Common.{◌≡◌, ◌≢◌, ◌∙◌, ℕ, ◌+◌, ◌<◌, ◌≤◌, true, false, ◌⊎◌, inl, inr, List, [], ◌∷◌, ◌++◌, length, map, max, Option, None, Some, slice_index_or, refl, sym, ap, subst, arith, Contains, zero, suc, ◌-◌, append-nil, length-append}
+use Rattle.std.proofs.Common.{◌≡◌, ◌≢◌, ◌∙◌, ℕ, ◌+◌, ◌<◌, true, false, ◌⊎◌, inl, inr, List, [], ◌∷◌, ◌++◌, length, map, max, Option, None, Some, sym, ap, subst, arith, Contains, ◌-◌, append-nil, length-append}
 use Rattle.std.specs.List.{list_all}
 use Rattle.card_counter.specs.CounterState.{CounterState, column_at, var_at, bound_literal, negative}
 use Rattle.des_base.proofs.BoolLemmas.{otherwise as as_false, either as or_cases, both}
@@ -123,6 +123,3 @@ assumptions_stay code old new (Some k) assumed keeps assumptions = record {
   whole = assumptions.whole ∙ ap (λ l. assumptions.guards ++ l ∷ []) (sym (bound_stays old new k keeps assumptions.column));
   column = (let count = ap length keeps.more ∙ length-append old.columns keeps.columns in omega (arith, count, assumptions.column));
 }
-
-pub below_more : (few many : ℕ) (clause : Clause) → few ≤ many → HasValues few clause → HasValues many clause
-below_more few many clause more below k d less = let here = below k d less in omega (arith, here, more)

@@ -1,54 +1,13 @@
 -- The clauses of a list, one after another, as axioms of a book.
-use Rattle.std.proofs.Common.{◌≡◌, ◌∙◌, ℕ, zero, suc, ◌+◌, ◌-◌, ◌<◌, ◌≤◌, false, List, [], ◌∷◌, ◌++◌, length, map, take, Option, Some, unwrap_or, get_or, eqb, refl, sym, ap, arith, sum_by}
-use Rattle.std.proofs.lemmas.Bool.{ne_eqb}
-use Rattle.std.proofs.lemmas.List.{append_assoc, append-nil, map-append, take_more}
-use Rattle.std.proofs.lemmas.List.Elements.{filter_map-append}
-use Rattle.std.proofs.lemmas.List.Sums.{sum_by_more, sum_by_more_le}
-use Rattle.std.proofs.lemmas.Option.{slice_get-get_or}
+use Rattle.std.proofs.Common.{◌≡◌, ◌∙◌, ℕ, zero, suc, List, [], ◌∷◌, ◌++◌, length, map, take, refl, sym, ap}
+use Rattle.std.proofs.lemmas.List.{append_assoc, append-nil, map-append}
 use Rattle.des_base.proofs.Elements.{take_whole}
 use Rattle.least_faults.specs.Growing.{AddsAxioms, HasFrontOf}
-use Rattle.proof_ledger.specs.Book.{BookEntry, axiomatic, axiom_of, clause_of, axioms_of, clauses_of}
+use Rattle.proof_ledger.specs.Book.{BookEntry, axiomatic, axioms_of, clauses_of}
 use Rattle.prop_core.specs.Clauses.{Clause}
-use Rattle.prop_core.specs.Derivation.{clause_numbered}
-
--- the clause with the next number stands at the next place
-clause_at : (all : List Clause) (n : ℕ) (clause : Clause) → n < length all → clause_numbered all (n + 1) ≡ Some clause → get_or all n [] ≡ clause
-clause_at all n clause below numbered =
-    let some : eqb (n + 1) 0 ≡ false = ne_eqb (n + 1) 0 (λ q. absurd (omega arith)) in
-    let place : n + 1 - 1 ≡ n = omega arith in
-    let there : clause_numbered all (n + 1) ≡ Some (get_or all n []) = rw (some, place) (slice_get-get_or all n [] below) in
-    ap (λ (o : Option Clause). unwrap_or o []) (sym there ∙ numbered)
-
--- it becomes the next axiom
-pub axioms_next : (start now next : List BookEntry) (all : List Clause) (n : ℕ) (clause : Clause) → n < length all → clause_numbered all (n + 1) ≡ Some clause → now ≡ start ++ map axiomatic (take n all) →
-    next ≡ now ++ axiomatic clause ∷ [] → next ≡ start ++ map axiomatic (take (n + 1) all)
-axioms_next start now next all n clause below numbered so_far put =
-    let further : take (n + 1) all ≡ take n all ++ clause ∷ [] = take_more all n [] below ∙ ap (λ (c : Clause). take n all ++ c ∷ []) (clause_at all n clause below numbered) in
-    put ∙ ap (λ (book : List BookEntry). book ++ axiomatic clause ∷ []) so_far ∙ append_assoc start (map axiomatic (take n all)) (axiomatic clause ∷ [])
-    ∙ ap (λ (entries : List BookEntry). start ++ entries) (sym (map-append axiomatic (take n all) (clause ∷ []))) ∙ ap (λ (cs : List Clause). start ++ map axiomatic cs) (sym further)
-
--- its literals are among those of all, behind those of the clauses before it
-pub literals_next : (all : List Clause) (n : ℕ) (clause : Clause) → n < length all → clause_numbered all (n + 1) ≡ Some clause → sum_by length (take (n + 1) all) ≡ sum_by length (take n all) + length clause
-literals_next all n clause below numbered = sum_by_more length all n [] below ∙ ap (λ (c : Clause). sum_by length (take n all) + length c) (clause_at all n clause below numbered)
-
-pub literals_within : (all : List Clause) (n : ℕ) (clause : Clause) → n < length all → clause_numbered all (n + 1) ≡ Some clause → sum_by length (take n all) + length clause ≤ sum_by length all
-literals_within all n clause below numbered = omega (arith, sum_by_more_le length all n [] below, ap (λ (c : Clause). length c) (clause_at all n clause below numbered))
+use Rattle.proof_ledger.proofs.AxiomLists.{axioms_added, clauses_added}
 
 -- ---- what the book then has
-
-axioms_are : (clauses : List Clause) → axioms_of (map axiomatic clauses) ≡ clauses
-axioms_are [] = refl
-axioms_are (clause ∷ clauses) = ap (λ rest. clause ∷ rest) (axioms_are clauses)
-
-clauses_are : (clauses : List Clause) → clauses_of (map axiomatic clauses) ≡ clauses
-clauses_are [] = refl
-clauses_are (clause ∷ clauses) = ap (λ rest. clause ∷ rest) (clauses_are clauses)
-
-pub axioms_added : (book : List BookEntry) (clauses : List Clause) → axioms_of (book ++ map axiomatic clauses) ≡ axioms_of book ++ clauses
-axioms_added book clauses = filter_map-append axiom_of book (map axiomatic clauses) ∙ ap (λ (cs : List Clause). axioms_of book ++ cs) (axioms_are clauses)
-
-pub clauses_added : (book : List BookEntry) (clauses : List Clause) → clauses_of (book ++ map axiomatic clauses) ≡ clauses_of book ++ clauses
-clauses_added book clauses = filter_map-append clause_of book (map axiomatic clauses) ∙ ap (λ (cs : List Clause). clauses_of book ++ cs) (clauses_are clauses)
 
 pub adds_none : (book : List BookEntry) → AddsAxioms book book
 adds_none book = record { axioms = []; more = sym (append-nil book) }

@@ -1,9 +1,8 @@
 -- Columns after columns, where the book has further axioms, and where it has none.
-use Rattle.std.proofs.Common.{◌≡◌, ◌∙◌, ℕ, zero, suc, ◌+◌, ◌<◌, ◌≤◌, List, [], ◌++◌, map, length, refl, sym, ap, subst, arith, append-nil, append_assoc, length-append}
+use Rattle.std.proofs.Common.{◌≡◌, ◌∙◌, ℕ, zero, suc, ◌+◌, ◌<◌, ◌≤◌, List, [], ◌++◌, length, refl, sym, ap, subst, arith, append-nil, append_assoc, length-append}
 use Rattle.std.proofs.lemmas.List.{append_cancel_left}
-use Rattle.card_counter.specs.CounterState.{CounterState, with_column, next_clauses}
+use Rattle.card_counter.specs.CounterState.{with_column, next_clauses}
 use Rattle.des_base.specs.declared.TheConstants.{MOST_COLUMNS}
-use Rattle.least_faults.proofs.AxiomLists.{axioms_added}
 use Rattle.least_faults.proofs.Below.{room_of}
 use Rattle.least_faults.proofs.Columns.{parts_grow, room_grows}
 use Rattle.least_faults.proofs.ColumnsBuilt.{columns_counted}
@@ -14,8 +13,9 @@ use Rattle.least_faults.specs.declared.parts.Parts.{Parts}
 use Rattle.proof_ledger.specs.Book.{BookEntry, axioms_of}
 use Rattle.prop_core.specs.Clauses.{Clause}
 use Rattle.run_decode.proofs.WholeClauses.{clauses_grow}
-use Rattle.run_decode.specs.QuestionAxioms.{BuiltQuestion, column_built}
+use Rattle.run_decode.specs.QuestionAxioms.{BuiltQuestion}
 use Rattle.run_decode.specs.WholeNaming.{AreClausesOf}
+use Rattle.proof_ledger.proofs.AxiomLists.{axioms_added}
 
 -- ---- what a question is with columns more
 

@@ -1,11 +1,10 @@
 -- From the entries of a search to those of a whole answer: what came before, and the marks.
-use Rattle.std.proofs.Common.{◌≡◌, ◌∙◌, ℕ, ◌+◌, ◌-◌, true, ◌&&◌, ◌⊎◌, inl, inr, List, [], ◌∷◌, ◌++◌, length, Option, None, Some, IfNone, sym, ap, subst, arith, Contains, count_by, append-nil, append_assoc, Result, Ok, Err, IfOk, ◌≤◌, refl}
+use Rattle.std.proofs.Common.{◌≡◌, ◌∙◌, ℕ, ◌+◌, ◌-◌, true, ◌&&◌, ◌⊎◌, inl, inr, List, [], ◌∷◌, ◌++◌, length, Option, None, Some, IfNone, sym, ap, subst, arith, Contains, count_by, append-nil, append_assoc, ◌≤◌, refl}
 use Rattle.std.proofs.lemmas.List.Elements.{filter_map-append, Contains-append_cases as append_cases}
 use Rattle.std.proofs.lemmas.List.Folds.{list_all-append}
 use Rattle.std.specs.List.{AllByRecursion, list_all}
 use Rattle.des_base.proofs.Elements.{all_append, all_change, all_split}
 use Rattle.des_net.specs.Network.{Net}
-use Rattle.least_faults.proofs.Assuming.{below_more}
 use Rattle.least_faults.proofs.ColumnsBuilt.{vars_grow, within_none}
 use Rattle.least_faults.proofs.Freshness.{fresh_both, fresh_mark, fresh_none, known_same}
 use Rattle.least_faults.proofs.KnownVariables.{known_back, known_joined}
@@ -20,7 +19,7 @@ use Rattle.least_faults.specs.Columns.{built_within, columns_for}
 use Rattle.least_faults.specs.Evidence.{FinalsNegate, HasFinal, IsEvidence, IsPosed, NegatesAssumed}
 use Rattle.least_faults.specs.Parts.{AreParts, AreReady, built_of}
 use Rattle.log_order.specs.Log.{Log}
-use Rattle.proof_ledger.specs.Book.{BookEntry, final, mark, clause_of, clauses_of, axiom_of, axioms_of, is_mark}
+use Rattle.proof_ledger.specs.Book.{BookEntry, final, mark, clauses_of, axiom_of, axioms_of, is_mark}
 use Rattle.proof_ledger.specs.Fresh.{is_learnt}
 use Rattle.prop_core.specs.Clauses.{Clause, HasValues}
 use Rattle.prop_core.specs.Trail.{Clashes}
@@ -32,6 +31,8 @@ use Rattle.least_faults.specs.declared.parts.Parts.{Parts}
 use Rattle.least_faults.specs.Asking.{IsSearching}
 use Rattle.least_faults.specs.Growing.{HasGrownWithin, KeepsQuestion}
 use Rattle.run_decode.proofs.Faults.{count_append}
+use Rattle.proof_ledger.proofs.AxiomLists.{marked_axioms, marked_clauses}
+use Rattle.prop_core.proofs.Literals.{wider}
 
 -- the axioms are the same where learnt entries came before
 same_front : (first : List Clause) (front entries : List BookEntry) → list_all is_learnt front ≡ true → first ++ axioms_of entries ≡ first ++ axioms_of (front ++ entries)
@@ -68,7 +69,7 @@ evidence_later names first front since net log n bound all_learnt front_known sh
     both_known = all_split (HasValues most) first.axioms (clauses_of (shown.refuted.earlier ++ last)) shown.known
 
     grown : AllByRecursion (HasValues most) (clauses_of front)
-    grown = all_change (HasValues first.vars) (HasValues most) (clauses_of front) (λ clause low. below_more first.vars most clause (vars_grow first (columns_for bound - length first.counter.columns)) low) front_known
+    grown = all_change (HasValues first.vars) (HasValues most) (clauses_of front) (λ clause low. wider first.vars most clause (vars_grow first (columns_for bound - length first.counter.columns)) low) front_known
 
 final_later : (front since : List BookEntry) (assumed : List Lit) → list_all is_learnt front ≡ true → HasFinal (front ++ since) assumed → HasFinal since assumed
 final_later front since assumed all_learnt has = record { clause = has.clause; hints = has.hints; there = by (append_cases front since (final has.clause has.hints) has.there); negates = has.negates }
@@ -126,17 +127,7 @@ found_later names begun now net log n budget left old mid new front answer same 
     within : (one two all : ℕ) → all ≡ one + two → two ≤ left → one ≡ count_by is_learnt front → all ≤ budget
     within one two all is less count = omega (arith, is, less, count, paid)
 
-pub ok_weaker : {A B : Type 0} (r : Result A B) (P Q : A → Type 0) → ((a : A) → P a → Q a) → IfOk r P → IfOk r Q
-ok_weaker (Ok a) P Q f p = f a p
-ok_weaker (Err e) P Q f p = tt
-
 -- ---- marks
-
-pub marked_axioms : (book : List BookEntry) (number : ℕ) → axioms_of (book ++ mark number ∷ []) ≡ axioms_of book
-marked_axioms book number = filter_map-append axiom_of book (mark number ∷ []) ∙ append-nil (axioms_of book)
-
-pub marked_clauses : (book : List BookEntry) (number : ℕ) → clauses_of (book ++ mark number ∷ []) ≡ clauses_of book
-marked_clauses book number = filter_map-append clause_of book (mark number ∷ []) ∙ append-nil (clauses_of book)
 
 pub marked_ready : {R : Type 0} (may : R → ℕ → Type 0) (gives : R → ℕ → ℕ → Type 0) (parts : Parts R) (number : ℕ) (book new : List BookEntry) → new ≡ book ++ mark number ∷ [] → AreReady may gives parts book → AreReady may gives parts new
 marked_ready may gives parts number book new is ready = record {

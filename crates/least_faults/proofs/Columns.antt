@@ -6,7 +6,6 @@ use Rattle.std.specs.List.{AllByRecursion, range_with_len}
 use Rattle.card_counter.proofs.States.{columns_add_clauses, one_more_column, grown_is_made}
 use Rattle.card_counter.specs.CounterState.{CounterState, counter_clauses, with_column, next_clauses}
 use Rattle.des_base.proofs.Elements.{all_change, all_from}
-use Rattle.least_faults.proofs.AxiomLists.{axioms_added, clauses_added}
 use Rattle.least_faults.proofs.Below.{counter_below}
 use Rattle.least_faults.proofs.Bounded.{bounded_column, one_less}
 use Rattle.least_faults.proofs.FewClauses.{AreFew, few_in_column}
@@ -14,7 +13,7 @@ use Rattle.least_faults.specs.Growing.{KeepsColumns, AddsAxioms}
 use Rattle.des_base.specs.declared.TheConstants.{MOST_COLUMNS, VAR_LIMIT}
 use Rattle.least_faults.specs.Parts.{AreParts, AreReadyBeside, HaveRoom}
 use Rattle.log_encode.specs.CodedLog.{CodedLog}
-use Rattle.proof_ledger.specs.Book.{BookEntry, axiomatic, clauses_of, axioms_of}
+use Rattle.proof_ledger.specs.Book.{BookEntry, axiomatic, clauses_of}
 use Rattle.prop_core.specs.Clauses.{Clause, HasValues}
 use Rattle.prop_core.specs.declared.lit.Lit.{Lit}
 use Rattle.run_decode.proofs.WholeClauses.{clauses_grow}
@@ -24,6 +23,7 @@ use Rattle.step_encode.specs.Coded.{CodedSteps}
 use Rattle.least_faults.specs.declared.parts.Parts.{Parts}
 use Rattle.sat_order.specs.Rank.{IsRanked}
 use Rattle.sat_solve.specs.Solving.{SolverState}
+use Rattle.proof_ledger.proofs.AxiomLists.{clauses_added}
 
 -- ---- columns that are added to a counter
 

@@ -1,22 +1,22 @@
 -- The variables of a question's axioms are among its names, so that a budget above all clauses over them decides.
-use Rattle.std.proofs.Common.{◌≡◌, ◌∙◌, ℕ, ◌^◌, Bool, true, false, ◌==◌, List, [], ◌∷◌, ◌++◌, map, option_map, Option, Some, None, refl, sym, ap, subst, arith, Contains, append-nil, count_by}
+use Rattle.std.proofs.Common.{◌≡◌, ◌∙◌, ℕ, ◌^◌, Bool, true, false, ◌==◌, List, [], ◌∷◌, ◌++◌, map, option_map, Option, Some, None, refl, ap, subst, arith, Contains, count_by}
 use Rattle.std.proofs.Math.Nat.{pow-le-pow_right}
 use Rattle.std.proofs.lemmas.Bool.{eqb-true}
 use Rattle.std.proofs.lemmas.List.{length-map}
-use Rattle.std.proofs.lemmas.List.Elements.{filter_map-append}
 use Rattle.std.specs.List.{AllByRecursion, list_any}
 use Rattle.des_base.proofs.Elements.{here_first, here_later}
 use Rattle.des_net.specs.Network.{Net}
 use Rattle.least_faults.proofs.FreshCount.{fresh_below}
 use Rattle.least_faults.specs.Deciding.{UndecidedIsSmall}
 use Rattle.log_order.specs.Log.{Log}
-use Rattle.proof_ledger.specs.Book.{BookEntry, axiom_of, axioms_of, mark}
+use Rattle.proof_ledger.specs.Book.{axioms_of, mark}
 use Rattle.proof_ledger.specs.Fresh.{is_learnt, occurs}
 use Rattle.prop_core.specs.Clauses.{Clause}
 use Rattle.prop_core.specs.Trail.{has_var}
 use Rattle.prop_core.specs.VariableNames.{Meaning, NamedLiteral, meaning_of, named_clause, named_literal, with_literal}
 use Rattle.prop_core.specs.declared.lit.Lit.{Lit}
 use Rattle.run_decode.specs.Drawn.{IsInstance}
+use Rattle.proof_ledger.proofs.AxiomLists.{axioms_between}
 
 -- ---- what has a name is among the names
 
@@ -59,16 +59,10 @@ instances_known names net log n (clause ∷ clauses) instances var there = by (h
 
 -- ---- the whole book
 
--- marks are no axioms
-marked_axioms : (old since : List BookEntry) → axioms_of (old ++ mark 0 ∷ since ++ mark 1 ∷ []) ≡ axioms_of ((old ++ mark 0 ∷ []) ++ since)
-marked_axioms old since =
-    filter_map-append axiom_of (old ++ mark 0 ∷ since) (mark 1 ∷ []) ∙ append-nil (axioms_of (old ++ mark 0 ∷ since)) ∙ filter_map-append axiom_of old (mark 0 ∷ since)
-    ∙ sym (filter_map-append axiom_of (old ++ mark 0 ∷ []) since ∙ ap (λ (axioms : List Clause). axioms ++ axioms_of since) (filter_map-append axiom_of old (mark 0 ∷ []) ∙ append-nil (axioms_of old)))
-
 pub undecided_is_small : UndecidedIsSmall
 undecided_is_small names first net log n budget lo best old new answered =
     let since = answered.since in
-    let same = ap axioms_of answered.whole ∙ marked_axioms old since in
+    let same = ap axioms_of answered.whole ∙ axioms_between old since in
     let known = λ (var : ℕ) (there : occurs var ((old ++ mark 0 ∷ []) ++ since) ≡ true).
     instances_known names net log n (axioms_of new) answered.asks.1.instances var (ap (list_any (has_var var)) same ∙ there) in
     let below = fresh_below (variables_of names) (old ++ mark 0 ∷ []) since (count_by is_learnt since) known answered.fresh in

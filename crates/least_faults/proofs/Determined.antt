@@ -2,11 +2,9 @@
 use Rattle.std.proofs.Common.{◌≡◌, ◌∙◌, ℕ, suc, ◌+◌, ◌≤◌, List, [], ◌∷◌, ◌++◌, fold, length, map, take, sym, ap, subst, arith, Bool, Some, option_map, slice_get}
 use Rattle.std.proofs.lemmas.Grind.{fold-append}
 use Rattle.std.proofs.lemmas.List.{map-append}
-use Rattle.card_counter.proofs.ListLemmas.{take_more}
 use Rattle.card_counter.specs.CounterState.{CounterState, with_column, without_columns, next_clauses}
 use Rattle.des_base.specs.declared.TheConstants.{VAR_LIMIT}
 use Rattle.des_net.specs.Network.{Net}
-use Rattle.least_faults.proofs.AxiomLists.{axioms_added}
 use Rattle.least_faults.proofs.CodedAlarms.{nameless_at}
 use Rattle.least_faults.specs.LogCoding.{AreBuiltBy, alarms_added, pairs_added, written_of}
 use Rattle.log_clauses.specs.Additions.{Addition, alarm_added, pair_added}
@@ -24,6 +22,8 @@ use Rattle.run_decode.proofs.Built.{question_begins}
 use Rattle.run_decode.specs.QuestionAxioms.{column_built, question_built, steps_built}
 use Rattle.run_decode.specs.WholeNaming.{AreInputs}
 use Rattle.step_encode.specs.Coded.{CodedSteps, code_meanings, code_grid, variable_count, AppendsSteps}
+use Rattle.des_base.proofs.Elements.{take_push}
+use Rattle.proof_ledger.proofs.AxiomLists.{axioms_added}
 
 -- ---- a log
 
@@ -61,7 +61,7 @@ alarm_built log i first labels maybe draft old mid new old_clauses mid_clauses n
     longer =
         ap (λ (a : Addition). alarms_added (take i alarms) ++ a ∷ []) is.adds
         ∙ sym (map-append (λ (a : Alarm). alarm_added a) (take i alarms) (nameless labels maybe ∷ []))
-        ∙ ap alarms_added (sym (take_more alarms i (nameless labels maybe) (nameless_at log.alarms i labels maybe there mark)))
+        ∙ ap alarms_added (sym (take_push alarms i (nameless labels maybe) (nameless_at log.alarms i labels maybe there mark)))
         ∙ ap (λ k. alarms_added (take k alarms)) next
 
 -- the next pair
@@ -79,7 +79,7 @@ pair_built pairs i first one second draft old mid new old_clauses mid_clauses ne
     longer =
         ap (λ (a : Addition). pairs_added (take i pairs) ++ a ∷ []) is.adds
         ∙ sym (map-append (λ (pair : ℕ × ℕ). pair_added pair.0 pair.1) (take i pairs) ((one, second) ∷ []))
-        ∙ ap pairs_added (sym (take_more pairs i (one, second) there))
+        ∙ ap pairs_added (sym (take_push pairs i (one, second) there))
         ∙ ap (λ k. pairs_added (take k pairs)) next
 
 -- the whole log

@@ -14,7 +14,6 @@ use Rattle.des_base.proofs.Elements.{all_split, all_change}
 use Rattle.des_base.specs.Lists.{numbers_below}
 use Rattle.des_base.specs.declared.TheConstants.{VAR_LIMIT}
 use Rattle.least_faults.proofs.AddedClauses.{size_grows}
-use Rattle.least_faults.proofs.AxiomLists.{axioms_added, clauses_added}
 use Rattle.least_faults.proofs.Below.{axioms_below}
 use Rattle.least_faults.proofs.Bounded.{bounded_with, width_fits}
 use Rattle.least_faults.proofs.FewClauses.{AreFew, few_at, few_flat}
@@ -44,6 +43,7 @@ use Rattle.run_decode.specs.QuestionAxioms.{added_axioms, added_built, cells_aft
 use Rattle.run_decode.specs.WholeNaming.{AreClausesOf, AreCodedTogether, counter_after, counted_after, false_input}
 use Rattle.sat_prop.specs.Changes.{IsFront}
 use Rattle.step_encode.specs.Coded.{CodedSteps}
+use Rattle.proof_ledger.proofs.AxiomLists.{axioms_added, clauses_added}
 
 -- ---- what the counter gets with it
 

@@ -12,19 +12,12 @@ use Rattle.proof_ledger.specs.Book.{BookEntry, axiomatic, learnt, final, mark, a
 use Rattle.proof_ledger.specs.Fresh.{AreFresh, IfLearnt, IsFreshClause, is_learnt, occurs}
 use Rattle.prop_core.proofs.Entailed.{both}
 use Rattle.prop_core.proofs.Forcing.{falsified_from, forced_unit}
-use Rattle.prop_core.proofs.Literals.{all_at, all_from, literal_is, once_consistent, same_is}
+use Rattle.prop_core.proofs.Literals.{all_at, all_from, literal_is, once_consistent, same_is, literal_of}
 use Rattle.prop_core.specs.Clauses.{Clause, is_false, is_true, same_literal}
 use Rattle.prop_core.specs.Derivation.{standing}
 use Rattle.prop_core.specs.Trail.{HasVarsOnce, all_quiet, has_var, is_forced_by, is_quiet}
 use Rattle.prop_core.specs.declared.lit.Lit.{Lit}
-
-as_false : (b : Bool) → (b ≡ true → ⊥) → b ≡ false
-as_false true h = absurd (h refl)
-as_false false h = refl
-
-clash : (b : Bool) → b ≡ true → b ≡ false → ⊥
-clash true h k = cc
-clash false h k = cc
+use Rattle.des_base.proofs.BoolLemmas.{or_left, clash, otherwise}
 
 -- ---- a fresh clause is no superset of one before
 
@@ -58,16 +51,13 @@ not_superset before c d fresh held inside = by (is_true d fresh.found) refl
         let q = rw unit at quiet in cc
     by false e =
         let all : list_all (is_false fresh.taken) d ≡ true = all_from (is_false fresh.taken) d (λ x here. false_where (same_literal fresh.found x) (is_false fresh.taken x) (all_at (λ k. same_literal fresh.found k || is_false fresh.taken k) d x others here)
-        (as_false (same_literal fresh.found x) (λ same. clash (is_true d fresh.found) (subst (λ y. is_true d y ≡ true) (sym (same_is fresh.found x same)) here) e))) in
+        (otherwise (same_literal fresh.found x) (λ same. clash (is_true d fresh.found) (subst (λ y. is_true d y ≡ true) (sym (same_is fresh.found x same)) here) e))) in
         let q = rw (falsified_from fresh.taken d all) at quiet in cc
 
 -- ---- a clause as a number below a power of 3, by the variables of a list
 
-abbrev with_sign : ℕ → Bool → Lit
-with_sign var positive = record { var = var; positive = positive }
-
 digit : ℕ → Clause → ℕ
-digit x clause = cond (is_true clause (with_sign x true)) 1 (cond (is_true clause (with_sign x false)) 2 0)
+digit x clause = cond (is_true clause (literal_of x true)) 1 (cond (is_true clause (literal_of x false)) 2 0)
 
 code : List ℕ → Clause → ℕ
 code [] clause = 0
@@ -75,7 +65,7 @@ code (x ∷ vars) clause = digit x clause + 3 * code vars clause
 
 digit_small : (x : ℕ) (clause : Clause) → digit x clause ≤ 2
 unfolding digit
-digit_small x clause = by (is_true clause (with_sign x true)) (is_true clause (with_sign x false))
+digit_small x clause = by (is_true clause (literal_of x true)) (is_true clause (literal_of x false))
   where
     by : (b d : Bool) → cond b 1 (cond d 2 0) ≤ 2
     by true d = omega arith
@@ -96,18 +86,18 @@ same_digit (v ∷ vars) c d same x (zero, below, is) =
 same_digit (v ∷ vars) c d same x (suc k, below, is) =
     same_digit vars c d (omega (arith, same, digit_small v c, digit_small v d)) x (k, omega arith, is)
 
-positive_digit : (x : ℕ) (clause : Clause) → digit x clause ≡ 1 → is_true clause (with_sign x true) ≡ true
+positive_digit : (x : ℕ) (clause : Clause) → digit x clause ≡ 1 → is_true clause (literal_of x true) ≡ true
 unfolding digit
-positive_digit x clause h = by (is_true clause (with_sign x true)) (is_true clause (with_sign x false)) h
+positive_digit x clause h = by (is_true clause (literal_of x true)) (is_true clause (literal_of x false)) h
   where
     by : (b d : Bool) → ◌≡◌ {A = ℕ} (cond b 1 (cond d 2 0)) 1 → b ≡ true
     by true d e = refl
     by false true e = absurd (omega arith)
     by false false e = absurd (omega arith)
 
-negative_digit : (x : ℕ) (clause : Clause) → digit x clause ≡ 2 → is_true clause (with_sign x false) ≡ true
+negative_digit : (x : ℕ) (clause : Clause) → digit x clause ≡ 2 → is_true clause (literal_of x false) ≡ true
 unfolding digit
-negative_digit x clause h = by (is_true clause (with_sign x true)) (is_true clause (with_sign x false)) h
+negative_digit x clause h = by (is_true clause (literal_of x true)) (is_true clause (literal_of x false)) h
   where
     by : (b d : Bool) → ◌≡◌ {A = ℕ} (cond b 1 (cond d 2 0)) 2 → d ≡ true
     by true d e = absurd (omega arith)
@@ -124,14 +114,14 @@ carried vars c d once same x known here = by x.positive refl
 
     by : (b : Bool) → x.positive ≡ b → is_true c x ≡ true
     by true e =
-        let is : x ≡ with_sign x.var true = literal_is x (with_sign x.var true) refl e in
-        let there : is_true d (with_sign x.var true) ≡ true = subst (λ y. is_true d y ≡ true) is here in
+        let is : x ≡ literal_of x.var true = literal_is x (literal_of x.var true) refl e in
+        let there : is_true d (literal_of x.var true) ≡ true = subst (λ y. is_true d y ≡ true) is here in
         let one : digit x.var d ≡ 1 = rw there refl in
         subst (λ y. is_true c y ≡ true) (sym is) (positive_digit x.var c (equal ∙ one))
     by false e =
-        let is : x ≡ with_sign x.var false = literal_is x (with_sign x.var false) refl e in
-        let there : is_true d (with_sign x.var false) ≡ true = subst (λ y. is_true d y ≡ true) is here in
-        let other : is_true d (with_sign x.var true) ≡ false = once_consistent d once (with_sign x.var false) there in
+        let is : x ≡ literal_of x.var false = literal_is x (literal_of x.var false) refl e in
+        let there : is_true d (literal_of x.var false) ≡ true = subst (λ y. is_true d y ≡ true) is here in
+        let other : is_true d (literal_of x.var true) ≡ false = once_consistent d once (literal_of x.var false) there in
         let two : digit x.var d ≡ 2 = rw (other, there) refl in
         subst (λ y. is_true c y ≡ true) (sym is) (negative_digit x.var c (equal ∙ two))
 
@@ -158,7 +148,7 @@ clauses_more book e d h = rw (filter_map-append clause_of book (e ∷ [])) (Cont
 
 -- a fresh clause has another number than one before
 other_code : (vars : List ℕ) (before : List BookEntry) (c d : Clause) → IsFreshClause before c → Contains (clauses_of before) d → HasVarsOnce d → IsOver vars d → (code vars d == code vars c) ≡ false
-other_code vars before c d fresh held once over = as_false (code vars d == code vars c)
+other_code vars before c d fresh held once over = otherwise (code vars d == code vars c)
     (λ h. not_superset before c d fresh held (λ x here. carried vars c d once (sym (eqb-true (code vars d) (code vars c) h)) x (over x here) here))
 
 later_codes : (vars : List ℕ) (d : Clause) (before since : List BookEntry) → EachFresh before since → Contains (clauses_of before) d → HasVarsOnce d → IsOver vars d →
@@ -171,19 +161,15 @@ later_codes vars d before (learnt c hints ∷ since) each held once over =
     (other_code vars before c d each.0 held once over, later_codes vars d (before ++ learnt c hints ∷ []) since each.1 (clauses_more before (learnt c hints) d held) once over)
 
 not_empty_code : (vars : List ℕ) (before : List BookEntry) (c : Clause) → IsFreshClause before c → IsOver vars c → (code vars [] == code vars c) ≡ false
-not_empty_code vars before c fresh over = as_false (code vars [] == code vars c)
+not_empty_code vars before c fresh over = otherwise (code vars [] == code vars c)
     (λ h. let here = (both fresh.alone).0 in
     let gone = carried vars [] c fresh.once (eqb-true (code vars []) (code vars c) h) fresh.found (over fresh.found here) here in cc)
 
 -- the variables of axioms of a book are among these
-abbrev AreOver : List ℕ → List BookEntry → Type 0
+abbrev pub AreOver : List ℕ → List BookEntry → Type 0
 AreOver vars book = (var : ℕ) → occurs var book ≡ true → Contains vars var
 
-or_left : (a b : Bool) → a ≡ true → a || b ≡ true
-or_left true b h = refl
-or_left false b h = cc
-
-over_front : (vars : List ℕ) (front back : List BookEntry) → AreOver vars (front ++ back) → AreOver vars front
+pub over_front : (vars : List ℕ) (front back : List BookEntry) → AreOver vars (front ++ back) → AreOver vars front
 over_front vars front back over var there =
     over var (ap (list_any (has_var var)) (filter_map-append axiom_of front back) ∙ list_any-append (has_var var) (axioms_of front) (axioms_of back)
     ∙ or_left (list_any (has_var var) (axioms_of front)) (list_any (has_var var) (axioms_of back)) there)

@@ -1,17 +1,15 @@
 -- Clauses that were learnt, each of them fresh, and variables that occur in axioms.
-use Rattle.std.proofs.Common.{◌≡◌, ◌∙◌, ℕ, Bool, true, false, ◌||◌, List, [], ◌∷◌, ◌++◌, map, refl, sym, ap, subst, arith, count_by, append-nil, append_assoc}
+use Rattle.std.proofs.Common.{◌≡◌, ◌∙◌, ℕ, Bool, true, false, ◌||◌, List, [], ◌∷◌, ◌++◌, map, refl, sym, ap, subst, count_by, append-nil, append_assoc}
 use Rattle.std.proofs.lemmas.List.Folds.{list_any-append}
 use Rattle.std.specs.List.{list_any}
-use Rattle.least_faults.proofs.AxiomLists.{axioms_added, clauses_added}
-use Rattle.least_faults.proofs.Putting.{none_learnt}
 use Rattle.least_faults.specs.Answers.{HaveLearntFresh}
 use Rattle.least_faults.specs.Growing.{AddsAxioms}
 use Rattle.proof_ledger.specs.Book.{BookEntry, axiomatic, mark, axioms_of, clauses_of, EachAfter}
 use Rattle.proof_ledger.specs.Fresh.{AreFresh, is_learnt, IfLearnt, IsFreshClause}
 use Rattle.prop_core.specs.Clauses.{Clause}
 use Rattle.prop_core.specs.Trail.{has_var}
-use Rattle.run_decode.proofs.Faults.{count_append}
 use Rattle.sat_solve.specs.Searching.{HasAxiomVars, IsSearched}
+use Rattle.proof_ledger.proofs.AxiomLists.{axioms_added, clauses_added, learnt_between}
 
 -- ---- fresh clauses
 
@@ -39,19 +37,6 @@ fresh_axioms earlier clauses = record { number = refl; each = axioms_fresh earli
 -- nor is a mark
 pub fresh_mark : (earlier : List BookEntry) (number : ℕ) → HaveLearntFresh earlier (mark number ∷ [])
 fresh_mark earlier number = record { number = refl; each = (tt, tt) }
-
-learnt_between : (axioms : List Clause) (since : List BookEntry) → count_by is_learnt (map axiomatic axioms ++ mark 0 ∷ since ++ mark 1 ∷ []) ≡ count_by is_learnt since
-learnt_between axioms since =
-    let opened : count_by is_learnt (mark 0 ∷ since) ≡ count_by is_learnt since = refl in
-    let closing : count_by is_learnt (mark 1 ∷ []) ≡ 0 = refl in
-    omega (
-      arith,
-      count_append is_learnt (map axiomatic axioms ++ mark 0 ∷ since) (mark 1 ∷ []),
-      count_append is_learnt (map axiomatic axioms) (mark 0 ∷ since),
-      none_learnt axioms,
-      opened,
-      closing,
-    )
 
 -- what a search learnt, where all variables occur in axioms
 pub fresh_searched : (mid new : List BookEntry) (before after : ℕ) → (searched : IsSearched mid new before after) → HasAxiomVars mid → HaveLearntFresh mid searched.since

@@ -1,8 +1,8 @@
 -- The variables of a book's clauses are those of its axioms.
-use Rattle.std.proofs.Common.{◌≡◌, ℕ, ◌<◌, ◌||◌, Bool, true, false, ◌⊎◌, inl, inr, List, [], ◌∷◌, ◌++◌, sym, subst}
+use Rattle.std.proofs.Common.{◌≡◌, ℕ, ◌<◌, true, ◌⊎◌, inl, inr, List, [], ◌∷◌, ◌++◌, sym, subst}
 use Rattle.std.proofs.lemmas.List.Elements.{filter_map-append}
 use Rattle.std.specs.List.{AllByRecursion, list_any}
-use Rattle.des_base.proofs.BoolLemmas.{either as or_cases}
+use Rattle.des_base.proofs.BoolLemmas.{either as or_cases, or_left, or_right}
 use Rattle.des_base.proofs.Elements.{all_append, all_split}
 use Rattle.proof_ledger.specs.Book.{BookEntry, axioms_of, clause_of, clauses_of}
 use Rattle.prop_core.proofs.Literals.{below_from, below_var, has_among}
@@ -20,21 +20,11 @@ any_below n (c ∷ clauses) var below there = by (or_cases (has_var var c) (list
     by (inl here) rest = below_var n c var below.0 here
     by (inr later) rest = rest later
 
-left_true : (a b : Bool) → a ≡ true → (a || b) ≡ true
-left_true true b h = h
-left_true false b h = cc
-
-right_true : (a b : Bool) → b ≡ true → (a || b) ≡ true
-right_true true true h = h
-right_true false true h = h
-right_true true false h = cc
-right_true false false h = cc
-
 all_below : (n : ℕ) (clauses : List Clause) → ((var : ℕ) → list_any (has_var var) clauses ≡ true → var < n) → AllByRecursion (HasValues n) clauses
 all_below n [] known = tt
 all_below n (c ∷ clauses) known = (
-  below_from n c (λ l among. known l.var (left_true (has_var l.var c) (list_any (has_var l.var) clauses) (has_among c l among))),
-  all_below n clauses (λ var there. known var (right_true (has_var var c) (list_any (has_var var) clauses) there)),
+  below_from n c (λ l among. known l.var (or_left (has_var l.var c) (list_any (has_var l.var) clauses) (has_among c l among))),
+  all_below n clauses (λ var there. known var (or_right (has_var var c) (list_any (has_var var) clauses) there)),
 )
 
 -- where those of the axioms are, all are

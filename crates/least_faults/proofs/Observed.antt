@@ -1,16 +1,13 @@
 -- Each event touches a component, so no more events can be seen than the components' sizes say.
-use Rattle.std.proofs.Common.{◌≡◌, ◌∙◌, ℕ, zero, suc, ◌+◌, ◌*◌, ◌^◌, ◌<◌, ◌≤◌, ◌⊎◌, inl, inr, Bool, true, false, cond, List, [], ◌∷◌, length, refl, sym, ap, subst, arith, Contains, sum_by, is_some, ◌==◌}
-use Rattle.std.specs.List.{AllByRecursion}
-use Rattle.std.proofs.lemmas.Bool.{eq-eqb}
+use Rattle.std.proofs.Common.{◌≡◌, ℕ, zero, suc, ◌+◌, ◌*◌, ◌^◌, ◌<◌, ◌≤◌, ◌⊎◌, inl, inr, Bool, true, false, cond, List, [], ◌∷◌, length, refl, sym, ap, subst, arith, Contains, sum_by, is_some}
 use Rattle.std.proofs.lemmas.List.Elements.{Contains-get_or}
 use Rattle.std.proofs.lemmas.List.Sums.{sum_by-cons}
-use Rattle.std.proofs.Math.Nat.{one-mul, pow-suc, pow-zero}
-use Rattle.des_base.proofs.BoolLemmas.{or_left}
 use Rattle.des_base.proofs.Elements.{all_at, all_from, cons_cases, none_in_nil}
 use Rattle.des_base.proofs.NumbersBelow.{sum_numbers_more}
+use Rattle.des_base.proofs.Powers.{square}
 use Rattle.des_base.specs.Lists.{numbers_below}
 use Rattle.des_net.specs.declared.parts.Part.{Part}
-use Rattle.des_net.specs.Network.{Net, IsNetwork, IsEvent, IsPart, has_part, parts_of, touches, event_at, no_event, label_of}
+use Rattle.des_net.specs.Network.{Net, IsNetwork, IsEvent, IsPart, parts_of, touches, event_at, no_event, label_of}
 use Rattle.des_net.specs.QuestionSize.{component_sizes, observable_count, component_state_count, touching_count}
 use Rattle.run_clauses.proofs.Lists.{in_numbers}
 use Rattle.run_decode.proofs.SmallPieces.{first_of, first_there, first_known}
@@ -92,9 +89,6 @@ module _ (net : Net) (network : IsNetwork net) where
       let squares = sum_le (touching_count net) (λ c. (component_state_count net c + touching_count net c) ^ 2) (numbers_below (length net.components)) (λ c. within_square (component_state_count net c) (touching_count net c)) in
       omega (arith, seen, squares)
     where
-      square : (m : ℕ) → m ^ 2 ≡ m * m
-      square m = pow-suc m 1 ∙ ap (λ k. k * m) (pow-suc m 0 ∙ ap (λ k. k * m) (pow-zero m) ∙ one-mul m)
-
       at_most : (m : ℕ) → m ≤ m * m
       at_most zero = omega arith
       at_most (suc m) = omega arith

@@ -1,8 +1,7 @@
 -- What a question puts into a book: no marks, so many learnt entries, and at most one final one.
-use Rattle.std.proofs.Common.{◌≡◌, ◌∙◌, ℕ, ◌+◌, Bool, true, false, cond, ◌||◌, ◌⊎◌, inl, inr, List, [], ◌∷◌, ◌++◌, map, refl, sym, ap, subst, Contains, count_by, append-nil, append_assoc, Option}
+use Rattle.std.proofs.Common.{◌≡◌, ◌∙◌, ℕ, Bool, true, false, ◌||◌, ◌⊎◌, inl, inr, List, [], ◌∷◌, ◌++◌, map, refl, sym, ap, subst, Contains, count_by, append-nil, append_assoc, Option}
 use Rattle.std.proofs.lemmas.List.Elements.{filter_map-append, Contains-append_cases as append_cases}
 use Rattle.std.proofs.lemmas.List.Folds.{list_any-append}
-use Rattle.std.proofs.lemmas.List.Sums.{sum_by-append}
 use Rattle.std.specs.List.{AllByRecursion, list_any, list_all}
 use Rattle.des_base.proofs.Elements.{all_append, all_split, cons_cases, none_in_nil}
 use Rattle.least_faults.proofs.KnownVariables.{known_joined}
@@ -17,12 +16,9 @@ use Rattle.des_net.specs.Network.{Net}
 use Rattle.log_order.specs.Log.{Log}
 use Rattle.run_decode.specs.Faithful.{IsFaithful}
 use Rattle.run_decode.specs.QuestionAxioms.{BuiltQuestion}
+use Rattle.sat_solve.proofs.Derived.{derived_no_axioms}
 
 -- ---- axioms
-
-pub none_learnt : (clauses : List Clause) → count_by is_learnt (map axiomatic clauses) ≡ 0
-none_learnt [] = refl
-none_learnt (c ∷ clauses) = none_learnt clauses
 
 pub none_marked : (number : ℕ) (clauses : List Clause) → count_by (is_mark number) (map axiomatic clauses) ≡ 0
 none_marked number [] = refl
@@ -40,13 +36,6 @@ derived_unmarked number (axiomatic c ∷ since) h = cc
 derived_unmarked number (learnt c hints ∷ since) h = derived_unmarked number since h
 derived_unmarked number (final c hints ∷ since) h = derived_unmarked number since h
 derived_unmarked number (mark k ∷ since) h = cc
-
-pub derived_no_axioms : (since : List BookEntry) → list_all is_learnt_or_final since ≡ true → axioms_of since ≡ []
-derived_no_axioms [] h = refl
-derived_no_axioms (axiomatic c ∷ since) h = cc
-derived_no_axioms (learnt c hints ∷ since) h = derived_no_axioms since h
-derived_no_axioms (final c hints ∷ since) h = derived_no_axioms since h
-derived_no_axioms (mark k ∷ since) h = cc
 
 pub same_axioms : (old since : List BookEntry) → list_all is_learnt_or_final since ≡ true → axioms_of (old ++ since) ≡ axioms_of old
 same_axioms old since h = filter_map-append axiom_of old since ∙ ap (λ more. axioms_of old ++ more) (derived_no_axioms since h) ∙ append-nil (axioms_of old)

@@ -1,10 +1,11 @@
 -- How many variables a question of bounded size takes.
-use Rattle.std.proofs.Common.{◌≡◌, ◌∙◌, ℕ, zero, suc, ◌+◌, ◌-◌, ◌*◌, ◌^◌, ◌≤◌, Bool, true, false, cond, List, [], ◌∷◌, length, ap, subst, arith, sum_by}
+use Rattle.std.proofs.Common.{◌≡◌, ℕ, zero, suc, ◌+◌, ◌-◌, ◌*◌, ◌^◌, ◌≤◌, Bool, true, false, cond, List, [], ◌∷◌, length, subst, arith, sum_by}
 use Rattle.std.specs.Prelude.{nat_le, is_some}
-use Rattle.std.proofs.Math.Nat.{mul-le-mul_left, one-mul, pow-suc, pow-zero}
+use Rattle.std.proofs.Math.Nat.{mul-le-mul_left}
 use Rattle.std.proofs.lemmas.List.FromFn.{length-range_with_len}
 use Rattle.std.proofs.lemmas.List.Sums.{count_by-le-length, sum_by-cons}
 use Rattle.des_base.proofs.NumbersBelow.{sum_numbers_more}
+use Rattle.des_base.proofs.Powers.{square}
 use Rattle.des_base.specs.ChainCount.{chain_count as at_most_one_count}
 use Rattle.des_base.specs.Lists.{numbers_below}
 use Rattle.des_base.specs.declared.TheConstants.{VAR_LIMIT}
@@ -33,9 +34,6 @@ three_within : (m : ℕ) → 3 * m + 1 ≤ 2 * (m * m + 1)
 three_within zero = omega arith
 three_within (suc zero) = omega arith
 three_within (suc (suc m)) = grind arith
-
-square : (m : ℕ) → m ^ 2 ≡ m * m
-square m = pow-suc m 1 ∙ ap (λ k. k * m) (pow-suc m 0 ∙ ap (λ k. k * m) (pow-zero m) ∙ one-mul m)
 
 -- an alarm that may stand for at most 4,000 events
 alarm_bound : (n m : ℕ) → m ≤ 4000 → alarm_variables n m ≤ 2 * (n * (m ^ 2 + 1)) + 4001

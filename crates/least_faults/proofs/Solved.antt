@@ -4,7 +4,7 @@ use Rattle.card_counter.specs.Counting.{true_count}
 use Rattle.card_counter.specs.CounterState.{CounterState}
 use Rattle.des_net.specs.Network.{Net, IsNetwork}
 use Rattle.least_faults.proofs.Asked.{asked_explained, asked_refuted, asked_spent, begun_true, none_added, true_run}
-use Rattle.least_faults.proofs.Assuming.{assumed_below, below_more, compatible}
+use Rattle.least_faults.proofs.Assuming.{assumed_below, compatible}
 use Rattle.least_faults.proofs.Posing.{poses}
 use Rattle.least_faults.proofs.Putting.{same_axioms}
 use Rattle.least_faults.proofs.Staying.{belong_still, built_for}
@@ -21,6 +21,7 @@ use Rattle.log_order.specs.Log.{Log, IsValidLog}
 use Rattle.proof_ledger.specs.Book.{BookEntry, axioms_of, IsValidBook}
 use Rattle.prop_core.specs.Clauses.{AreConsistent, HasValues, value_in}
 use Rattle.prop_core.specs.declared.lit.Lit.{Lit}
+use Rattle.prop_core.proofs.Literals.{wider}
 use Rattle.run_decode.specs.Decoding.{IsTrueRun}
 use Rattle.run_decode.specs.QuestionAxioms.{BuiltQuestion}
 use Rattle.sat_solve.specs.Searching.{HasAxiomVars, HasPut, IsAnswer, IsSearched}
@@ -38,7 +39,7 @@ pub record CanSearch (vars : ℕ) (assumed : List Lit) : Type 0 where
 pub can_search : {R : Type 0} (may : R → ℕ → Type 0) (gives : R → ℕ → ℕ → Type 0) (old parts : Parts R) (first book : List BookEntry) (net : Net) (log : Log) (bound : Option ℕ) (assumed slice : List Lit) → AreReady may gives parts book → KeepsQuestion old parts first book → BelongTo net log old → IsNetwork net → IsValidLog log →
     AreAssumed old.counter parts bound assumed → slice ≡ assumed → CanSearch parts.solver.vars slice
 can_search may gives old parts first book net log bound assumed slice ready kept belonged network valid are same = subst (CanSearch parts.solver.vars) (sym same) (record {
-  known = below_more parts.vars parts.solver.vars assumed ready.enough (assumed_below parts.step parts.code.coded parts.counter parts.vars (axioms_of book) (axioms_of book) assumed parts.step.net log parts.step.steps bound ready.coded asks);
+  known = wider parts.vars parts.solver.vars assumed ready.enough (assumed_below parts.step parts.code.coded parts.counter parts.vars (axioms_of book) (axioms_of book) assumed parts.step.net log parts.step.steps bound ready.coded asks);
   compatible = compatible assumed asks.faithful.consistent;
 })
   where

@@ -1,5 +1,5 @@
 -- A final clause tells which bound it refutes: where something explains the log, it negates the literal of that bound.
-use Rattle.std.proofs.Common.{◌≡◌, ◌∙◌, ℕ, zero, suc, ◌-◌, ◌<◌, true, false, ◌⊎◌, inl, inr, List, [], ◌∷◌, ◌++◌, length, None, Some, option_map, map, refl, sym, ap, subst, arith, Contains, append-nil}
+use Rattle.std.proofs.Common.{◌≡◌, ◌∙◌, ℕ, zero, suc, ◌-◌, ◌<◌, true, false, ◌⊎◌, inl, inr, List, [], ◌∷◌, length, None, Some, option_map, map, refl, sym, ap, subst, arith, Contains, append-nil}
 use Rattle.std.specs.List.{AllByRecursion}
 use Rattle.card_counter.specs.CounterState.{CounterState, bound_literal}
 use Rattle.des_base.proofs.Elements.{cons_cases, here_first, here_later, none_in_nil}
@@ -22,30 +22,9 @@ use Rattle.run_decode.specs.Decided.{Entails}
 use Rattle.run_decode.specs.Drawn.{at_most, bound_literals, assumption_literals, fault_inputs}
 use Rattle.run_decode.specs.WholeNaming.{whole_meanings}
 use Rattle.std.proofs.lemmas.List.Elements.{Contains-append_cases as append_cases}
+use Rattle.std.proofs.lemmas.Option.{same_Some}
 use Rattle.step_encode.specs.Coded.{CodedSteps}
-
--- ---- a clause that negates a longer list
-
-record NegatesLast (x : Lit) (clause : Clause) : Type 0 where
-  l : Lit
-  there : Contains clause l
-  is : negation l ≡ x
-
-split_negates : (assumed : List Lit) (x : Lit) (clause : Clause) → NegatesOnly (assumed ++ x ∷ []) clause → NegatesOnly assumed clause ⊎ NegatesLast x clause
-split_negates assumed x [] negates = inl tt
-split_negates assumed x (l ∷ clause) negates = by (append_cases assumed (x ∷ []) (negation l) negates.0) (split_negates assumed x clause negates.1)
-  where
-    last : Contains (x ∷ []) (negation l) → negation l ≡ x
-    last in' = only (cons_cases x [] (negation l) in')
-      where
-        only : (x ≡ negation l) ⊎ Contains [] (negation l) → negation l ≡ x
-        only (inl is) = sym is
-        only (inr none) = absurd (none_in_nil (negation l) none)
-
-    by : Contains assumed (negation l) ⊎ Contains (x ∷ []) (negation l) → NegatesOnly assumed clause ⊎ NegatesLast x clause → NegatesOnly assumed (l ∷ clause) ⊎ NegatesLast x (l ∷ clause)
-    by (inr is) rest = inr (record { l = l; there = here_first l clause l refl; is = last is })
-    by (inl here) (inl rest) = inl (here, rest)
-    by (inl here) (inr found) = inr (record { l = found.l; there = here_later l clause found.l found.there; is = found.is })
+use Rattle.prop_core.proofs.Negations.{NegatesLast, split_negates}
 
 -- ---- a literal that is assumed, by name
 
@@ -64,9 +43,6 @@ named_in names (x ∷ clause) read l h in' = by (cons_cases x clause l in') (λ 
     by : (x ≡ l) ⊎ Contains clause l → (Contains clause l → IsNamedIn names parts.rest l) → IsNamedIn names read l
     by (inl is) later = record { m = parts.first; literal = subst (λ y. named_literal names y ≡ Some parts.first) is parts.literal; there = subst (λ r. Contains r parts.first) (sym parts.whole) (here_first parts.first parts.rest parts.first refl) }
     by (inr rest) later = let found = later rest in record { m = found.m; literal = found.literal; there = subst (λ r. Contains r found.m) (sym parts.whole) (here_later parts.first parts.rest found.m found.there) }
-
-some_same : (a b : NamedLiteral) → Some a ≡ Some b → a ≡ b
-some_same a b h = cc
 
 guards_positive : (net : Net) (log : Log) (es : List ℕ) → AllByRecursion (λ (m : NamedLiteral). m.positive ≡ true) (map (λ e. yes (closed e (length (chain net log e)))) es)
 guards_positive net log [] = tt
@@ -123,5 +99,5 @@ module _ (steps : CodedSteps) (code : CodedLog) (counter : CounterState) (vars :
       by (inr found) =
           let in' = subst (λ x. Contains second x) found.is (all_at (λ l. Contains second (negation l)) clause others found.l found.there) in
           let named = named_in (whole_meanings steps code counter) second reads.read (bound_literal counter j) reads.by_name in' in
-          let is = some_same named.m (no (reaches (suc (length counter.inputs - 1)) (suc j))) (sym named.literal ∙ called j assumptions.column) in
+          let is = same_Some named.m (no (reaches (suc (length counter.inputs - 1)) (suc j))) (sym named.literal ∙ called j assumptions.column) in
           bound_among steps.net log steps.steps (suc (length counter.inputs - 1)) j b ((reads.same (no (reaches (suc (length counter.inputs - 1)) (suc j)))).0 (subst (λ m. Contains reads.read m) is named.there))

@@ -7,7 +7,6 @@ use Rattle.des_net.specs.Width.{joined}
 use Rattle.log_clauses.proofs.Lists.{all_at}
 use Rattle.log_order.specs.Log.{place_in}
 use Rattle.std.proofs.lemmas.List.Elements.{Contains-append_left, Contains-append_right}
-pub use Rattle.des_base.proofs.Elements.{any_has, has_any}
 
 -- fronts of a list
 pub take_has : {X : Type 0} (xs : List X) (j k : ℕ) (x : X) → slice_get xs j ≡ Some x → j < k → Contains (take k xs) x

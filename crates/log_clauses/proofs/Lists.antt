@@ -2,9 +2,7 @@
 use Rattle.std.proofs.Common.{◌≡◌, ◌≢◌, ℕ, zero, suc, ◌+◌, ◌<◌, ◌≤◌, Bool, true, false, List, [], ◌∷◌, ◌∙◌, Some, refl, sym, ap, subst, arith, Contains, find, cond, inl, inr, ◌⊎◌, ◌==◌}
 use Rattle.std.specs.List.{AllByRecursion, range_with_len}
 use Rattle.std.proofs.lemmas.Bool.{eqb-true, eqb-false, eq-eqb, cases_lt}
-use Rattle.des_base.proofs.BoolLemmas.{otherwise}
-pub use Rattle.des_base.proofs.BoolLemmas.{clash}
-pub use Rattle.des_base.proofs.Elements.{filter_has, filter_from, pairs_filter, pairs_append}
+use Rattle.des_base.proofs.BoolLemmas.{otherwise, clash}
 use Rattle.des_base.proofs.Elements.{cons_cases, here_first, here_later, none_in_nil, all_from}
 use Rattle.des_base.specs.Lists.{EachPair}
 use Rattle.log_order.specs.Log.{place_in}

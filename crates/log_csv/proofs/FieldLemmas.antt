@@ -39,9 +39,6 @@ later_none (f ∷ fs) (suc i) h = ap (field_at (f ∷ fs)) (sym (more i)) ∙ la
 pub are_empty-none : (fields : List (List ℕ)) (i : ℕ) → None ≡ field_at fields i → are_empty (drop i fields) ≡ are_empty (drop (i + 1) fields)
 are_empty-none fields i h = ap are_empty (field_at-none fields i (sym h)) ∙ ap are_empty (sym (field_at-none fields (i + 1) (later_none fields i (sym h))))
 
-pub are_empty-past : (fields : List (List ℕ)) (i : ℕ) → length fields ≤ i → are_empty (drop i fields) ≡ true
-are_empty-past fields i h = ap are_empty (drop-past fields i h)
-
 -- ---- the keyword
 
 pub keyword-none : (fields : List (List ℕ)) → None ≡ field_at fields 0 → record_by_word fields ≡ record_with None (drop 1 fields)

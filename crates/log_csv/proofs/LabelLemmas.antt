@@ -1,5 +1,5 @@
 -- The labels of a field, one after another.
-use Rattle.std.proofs.Common.{◌≡◌, ◌-◌, ◌≤◌, ℕ, suc, Bool, true, false, ◌&&◌, List, [], ◌∷◌, ◌++◌, length, take, drop, refl, arith, ap, sym, ◌∙◌}
+use Rattle.std.proofs.Common.{◌≡◌, ◌-◌, ◌≤◌, ℕ, suc, Bool, true, false, ◌&&◌, List, [], ◌∷◌, ◌++◌, length, take, drop, refl, arith, ap, sym, ◌∙◌, sub-one}
 use Rattle.std.specs.Prelude.{◌==◌}
 use Rattle.std.specs.List.{list_all, position_or_len, slice_split}
 use Rattle.des_base.proofs.PieceLemmas.{after_cut, slice_split-piece}
@@ -11,12 +11,9 @@ take_all : (xs : List ℕ) → take (length xs) xs ≡ xs
 take_all [] = refl
 take_all (x ∷ xs) = ap (λ rest. x ∷ rest) (take_all xs)
 
-less_one : (n : ℕ) → suc n - 1 ≡ n
-less_one n = omega arith
-
 after : (back : List ℕ) → 1 ≤ length back → after_cut is_bar back ≡ slice_split is_bar (take (length back - 1) (drop 1 back))
 after [] h = absurd (omega arith)
-after (x ∷ xs) h = ap (slice_split is_bar) (sym (ap (λ n. take n xs) (less_one (length xs)) ∙ take_all xs))
+after (x ∷ xs) h = ap (slice_split is_bar) (sym (ap (λ n. take n xs) (sub-one (suc (length xs))) ∙ take_all xs))
 
 none_after : (back : List ℕ) → length back ≤ 0 → after_cut is_bar back ≡ []
 none_after [] h = refl

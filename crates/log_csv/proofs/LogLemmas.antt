@@ -1,5 +1,5 @@
 -- The codes of a log's records, as the log refuses what they say.
-use Rattle.std.proofs.Common.{◌≡◌, ◌+◌, ℕ, Bool, true, false, cond, not, ◌&&◌, ◌||◌, List, [], ◌∷◌, ◌++◌, length, Option, Some, None, Result, Ok, Err, refl, arith, ap, sym, ◌∙◌, subst, append_assoc, map}
+use Rattle.std.proofs.Common.{◌≡◌, ◌+◌, ℕ, Bool, true, false, cond, not, ◌&&◌, ◌||◌, List, [], ◌∷◌, ◌++◌, length, Option, Some, None, Ok, Err, refl, arith, ap, sym, ◌∙◌, subst, append_assoc, map}
 use Rattle.std.specs.Prelude.{is_none, is_some, nat_le, nat_lt, option_map, option_and_then}
 use Rattle.std.specs.List.{list_all}
 use Rattle.std.specs.Option.{option_map_or, option_or}
@@ -179,30 +179,6 @@ pair-refused earlier first second row i j log new e h named a b refusal =
 same_alarm : (maybe : Bool) (i id : List ℕ) (ls labels : List (List ℕ)) → i ≡ id → ls ≡ labels → alarm maybe i ls ≡ alarm maybe id labels
 same_alarm maybe i id ls labels a b = ap (λ x. alarm maybe x ls) a ∙ ap (alarm maybe id) b
 
-alarm-of : (of : Record) (id : List ℕ) (labels : List (List ℕ)) → row_of of ≡ Some (row.Alarm id labels) → of ≡ alarm false id labels
-alarm-of (alarm false i ls) id labels h = let a : i ≡ id = cc in let b : ls ≡ labels = cc in same_alarm false i id ls labels a b
-alarm-of (alarm true i ls) id labels h = cc
-alarm-of (before first second) id labels h = cc
-alarm-of ask id labels h = cc
-alarm-of nothing id labels h = cc
-alarm-of malformed id labels h = cc
-
-maybe-of : (of : Record) (id : List ℕ) (labels : List (List ℕ)) → row_of of ≡ Some (row.Maybe id labels) → of ≡ alarm true id labels
-maybe-of (alarm true i ls) id labels h = let a : i ≡ id = cc in let b : ls ≡ labels = cc in same_alarm true i id ls labels a b
-maybe-of (alarm false i ls) id labels h = cc
-maybe-of (before first second) id labels h = cc
-maybe-of ask id labels h = cc
-maybe-of nothing id labels h = cc
-maybe-of malformed id labels h = cc
-
-before-of : (of : Record) (first second : List ℕ) → row_of of ≡ Some (row.Before first second) → of ≡ before first second
-before-of (alarm true i ls) first second h = cc
-before-of (alarm false i ls) first second h = cc
-before-of (before f s) first second h = let a : f ≡ first = cc in let b : s ≡ second = cc in ap (λ x. before x s) a ∙ ap (before first) b
-before-of ask first second h = cc
-before-of nothing first second h = cc
-before-of malformed first second h = cc
-
 ask-of : (of : Record) → row_of of ≡ Some row.Ask → of ≡ ask
 ask-of (alarm true i ls) h = cc
 ask-of (alarm false i ls) h = cc
@@ -210,24 +186,6 @@ ask-of (before f s) h = cc
 ask-of ask h = refl
 ask-of nothing h = cc
 ask-of malformed h = cc
-
-pub row-alarm : (earlier : List Record) (of : Record) (id : List ℕ) (labels slice : List (List ℕ)) (number : ℕ) (new : Log) (r : Result (Unit {0}) LogReadRefusal) → row_of of ≡ Some (row.Alarm id labels) → row_code of ≡ None → slice ≡ labels
-    → (row_code (alarm false id slice) ≡ None → Adds earlier (alarm false id slice) number new r) → Adds earlier of number new r
-row-alarm earlier of id labels slice number new r h c e f =
-    let is : of ≡ alarm false id slice = alarm-of of id labels h ∙ ap (alarm false id) (sym e) in
-    subst (λ (said : Record). Adds earlier said number new r) (sym is) (f (ap row_code (sym is) ∙ c))
-
-pub row-maybe : (earlier : List Record) (of : Record) (id : List ℕ) (labels slice : List (List ℕ)) (number : ℕ) (new : Log) (r : Result (Unit {0}) LogReadRefusal) → row_of of ≡ Some (row.Maybe id labels) → row_code of ≡ None → slice ≡ labels
-    → (row_code (alarm true id slice) ≡ None → Adds earlier (alarm true id slice) number new r) → Adds earlier of number new r
-row-maybe earlier of id labels slice number new r h c e f =
-    let is : of ≡ alarm true id slice = maybe-of of id labels h ∙ ap (alarm true id) (sym e) in
-    subst (λ (said : Record). Adds earlier said number new r) (sym is) (f (ap row_code (sym is) ∙ c))
-
-pub row-before : (earlier : List Record) (of : Record) (first second : List ℕ) (number : ℕ) (new : Log) (r : Result (Unit {0}) LogReadRefusal) → row_of of ≡ Some (row.Before first second) → row_code of ≡ None
-    → (row_code (before first second) ≡ None → Adds earlier (before first second) number new r) → Adds earlier of number new r
-row-before earlier of first second number new r h c f =
-    let is : of ≡ before first second = before-of of first second h in
-    subst (λ (said : Record). Adds earlier said number new r) (sym is) (f (ap row_code (sym is) ∙ c))
 
 pub row-ask : (earlier : List Record) (of : Record) (number : ℕ) → row_of of ≡ Some row.Ask → log_fault_at number (record_code earlier of) ≡ Some (record { row = number; code = 6 })
 row-ask earlier of number h = ap (λ said. log_fault_at number (record_code earlier said)) (ask-of of h) ∙ ap (log_fault_at number) (code-ask earlier)

@@ -8,12 +8,12 @@ use Rattle.des_base.proofs.PlaceLemmas.{none_parts, place_next, text_turned, tex
 use Rattle.des_base.specs.Names.{AreDistinct, IsName, is_name_text, place_of}
 use Rattle.des_base.proofs.BoolLemmas.{is_less, join, neither, otherwise, not_most, not_less}
 use Rattle.log_order.specs.Log.{Alarm, AreKnown, Keeps, Log, StandOnce, closes_cycle, has_pair, place_in, reaches, a_log, an_alarm, id_of}
-use Rattle.log_order.specs.Adding.{IsAlarm, IsLog, alarm_refusal, before_refusal, names_of, with_pair, with_texts}
+use Rattle.log_order.specs.Adding.{IsAlarm, IsLog, alarm_refusal, before_refusal, names_of, with_texts}
 use Rattle.log_order.specs.declared.TheConstants.{MOST_ALARMS, MOST_LABELS, MOST_PAIRS}
 use Rattle.log_order.specs.declared.refusal.LogRefusal.{LogRefusal}
 use Rattle.log_order.specs.declared.refusal.LogRefusal.TheVariants as refused
 use Rattle.log_order.proofs.AlarmLemmas.{place_of-absent, with_text-new}
-use Rattle.log_order.proofs.KeptLemmas.{not_both, turned}
+use Rattle.log_order.proofs.KeptLemmas.{not_both, turned, with_pair-new}
 use Rattle.log_order.proofs.OrderLemmas.{Keeps-cycle}
 use Rattle.log_csv.specs.Records.{Record, records_of}
 use Rattle.log_csv.specs.Faults.{log_fault_at}
@@ -164,9 +164,6 @@ at_middle : {X : Type 0} (P : X → Type 0) (front : List X) (x : X) (rest : Lis
 at_middle P [] x rest h = h.0
 at_middle P (y ∷ ys) x rest h = at_middle P ys x rest h.1
 
-with_new : (pairs : List (ℕ × ℕ)) (i j : ℕ) → has_pair pairs i j ≡ false → with_pair pairs i j ≡ pairs ++ (i, j) ∷ []
-with_new pairs i j h = ap (λ b. cond b pairs (pairs ++ (i, j) ∷ [])) h
-
 -- what is true of the pairs of a log
 record ArePairs (alarms : List Alarm) (pairs : List (ℕ × ℕ)) : Type 0 where
   whole : AllByRecursion IsWhole alarms
@@ -189,7 +186,7 @@ pair_next alarms all front rest pair earlier h e logged =
     (sym (own_place alarms pair.0 h.distinct known.0))
     (sym (own_place alarms pair.1 h.distinct known.1))
     (pair_free (length alarms) front pair.0 pair.1 known.0 known.1 (cycle_free h.order front rest pair.0 pair.1 kept) room)
-    (ap (log_with alarms) (sym (with_new front pair.0 pair.1 (new_pair front rest pair.0 pair.1 once))))
+    (ap (log_with alarms) (sym (with_pair-new front pair.0 pair.1 (new_pair front rest pair.0 pair.1 once))))
 
 pairs_accepted : (alarms : List Alarm) (all front rest : List (ℕ × ℕ)) (earlier : List Record) → ArePairs alarms all → front ++ rest ≡ all → IsLogOf earlier (log_with alarms front)
     → Accepted earlier (map (pair_record_of alarms) rest) (log_with alarms all)

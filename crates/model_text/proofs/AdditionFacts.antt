@@ -27,10 +27,6 @@ is_added true None m now h = record { named = refl; accepted = refl; network = c
 is_added true (Some refusal) m now h = cc
 is_added false refusal m now h = cc
 
-pub nothing : (b : Bool) (net : Net) → ◌≡◌ {A = Option Net} (cond b None None) (Some net) → ⊥
-nothing true net h = cc
-nothing false net h = cc
-
 -- ---- refusals that are none
 
 absent : (o : Option ℕ) → is_some o ≡ false → o ≡ None

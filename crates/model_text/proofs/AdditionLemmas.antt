@@ -1,5 +1,5 @@
 -- What lines of states and events add.
-use Rattle.std.proofs.Common.{◌≡◌, ℕ, Bool, true, false, List, [], ◌∷◌, length, cond, Option, None, Some, Ok, refl, arith, ap, sym, ◌∙◌, subst}
+use Rattle.std.proofs.Common.{◌≡◌, ℕ, Bool, true, List, [], ◌∷◌, length, cond, Option, None, Some, Ok, refl, arith, ap, sym, ◌∙◌, subst}
 use Rattle.std.specs.List.{list_all}
 use Rattle.std.specs.Option.{option_to_list}
 use Rattle.des_base.proofs.BoolLemmas.{join}
@@ -11,10 +11,7 @@ use Rattle.des_net.specs.Building.{state_refusal, with_state, change_component, 
 use Rattle.model_text.specs.ModelLines.{NamedPart, state, event}
 use Rattle.model_text.specs.Growth.{grown, unless, last_place, parts_by_name, grown_by_event}
 use Rattle.model_text.specs.LineAdditions.{IsNamedInLine, IsLabelled}
-
-none_either : (b : Bool) → ◌≡◌ {A = Option Net} (cond b None None) None
-none_either true = refl
-none_either false = refl
+use Rattle.model_text.proofs.CodeLemmas.{none_either}
 
 no_state : (components : List Component) (place : ℕ) (name : List ℕ) → length components ≡ 0 → state_refusal components place name ≡ Some Unknown
 unfolding state_refusal

@@ -68,6 +68,10 @@ pub none_either : (b : Bool) → ◌≡◌ {A = Option Net} (cond b None None) N
 none_either true = refl
 none_either false = refl
 
+pub nothing : (b : Bool) (net : Net) → ◌≡◌ {A = Option Net} (cond b None None) (Some net) → ⊥
+nothing true net h = cc
+nothing false net h = cc
+
 pub not_empty : {X : Type 0} (front : List X) (last : X) → nat_le (length (front ++ last ∷ [])) 0 ≡ false
 not_empty [] last = grind (arith, nat_tests)
 not_empty (x ∷ front) last = grind (arith, nat_tests)

@@ -11,8 +11,8 @@ use Rattle.des_net.proofs.ComponentLemmas.{IsDraftComponent-with_state, IsDraftC
 use Rattle.des_net.proofs.DraftLemmas.{IsDraft-with_component, IsDraft-with_event, IsDraft-with_state, IsDraft-with_trans, change_at-at, components_set, count_at, trans_count-set}
 use Rattle.model_text.specs.ModelLines.{ModelLine, component, state, transition, event, NamedPart}
 use Rattle.model_text.specs.Growth.{grown, grown_by_event, grown_by_transition, last_place, last_states, parts_by_name}
-use Rattle.model_text.proofs.AdditionFacts.{FitsState, FitsTransition, as_many, fits_component, fits_event, fits_state, fits_transition, is_added, nothing}
-use Rattle.model_text.proofs.CodeLemmas.{All-slice_get}
+use Rattle.model_text.proofs.AdditionFacts.{FitsState, FitsTransition, as_many, fits_component, fits_event, fits_state, fits_transition, is_added}
+use Rattle.model_text.proofs.CodeLemmas.{All-slice_get, nothing}
 use Rattle.des_base.proofs.BoolLemmas.{both}
 
 -- an event's line names a part

@@ -18,9 +18,6 @@ use Rattle.model_text.proofs.NumberLemmas.{KeepsPlaces, KeepsPlaces-itself, numb
 abbrev pub ActionsGrow : List Automaton → List Automaton → Type 0
 ActionsGrow old new = (c : ℕ) → c < length old → KeepsPlaces (slice_index_or old c no_component).action_names (slice_index_or new c no_component).action_names
 
-same_grows : (a b : Automaton) → a ≡ b → KeepsPlaces a.action_names b.action_names
-same_grows a b e = subst (λ (x : Automaton). KeepsPlaces a.action_names x.action_names) e (KeepsPlaces-itself a.action_names)
-
 pub ActionsGrow-push : (components : List Automaton) (c : Automaton) → ActionsGrow components (components ++ c ∷ [])
 ActionsGrow-push [] c k h = absurd (omega arith)
 ActionsGrow-push (x ∷ xs) c zero h = KeepsPlaces-itself x.action_names

@@ -13,7 +13,7 @@ use Rattle.des_net.specs.Building.{change_at, change_component, with_component, 
 use Rattle.model_text.specs.ModelLines.{ModelLine, component, state, transition, event}
 use Rattle.model_text.specs.Growth.{grown, unless, last_place, last_states, grown_by_transition, grown_by_event, parts_by_name}
 use Rattle.model_text.specs.GrowthLaw.{HasNames, HasNamedParts}
-use Rattle.model_text.proofs.CodeLemmas.{All-slice_get}
+use Rattle.model_text.proofs.CodeLemmas.{All-slice_get, nothing}
 
 action_step : (action : List ℕ) (actions : List (List ℕ)) (b : Bool) → AllByRecursion IsName actions → IsName action → AllByRecursion IsName (cond b actions (actions ++ action ∷ []))
 action_step action actions true h n = h
@@ -24,10 +24,6 @@ accepted : (named : Bool) (refusal : Option BuildRefusal) (m net : Net) → cond
 accepted true None m net h = let e : m ≡ net = cc in (refl, e)
 accepted true (Some refusal) m net h = cc
 accepted false refusal m net h = cc
-
-nothing : (b : Bool) (net : Net) → ◌≡◌ {A = Option Net} (cond b None None) (Some net) → ⊥
-nothing true net h = cc
-nothing false net h = cc
 
 changed : (components : List Automaton) (i : ℕ) (change : Automaton → Automaton) (o : Option Automaton) → slice_get components i ≡ o → ((c : Automaton) → HasNamedParts c → HasNamedParts (change c))
     → All HasNamedParts components → All HasNamedParts (option_map_or (λ c. slice_set components i (change c)) o components)

@@ -45,20 +45,12 @@ module _ {X : Type 0} (f : List ℕ → X → List ModelLine) where
       ∙ ap (λ t. v ++ t) (sym (flat_map-append line_text (each_named f (take i names) (take i xs)) (f name x)))
       ∙ ap (λ ls. v ++ flat_map line_text ls) (sym (named-next names xs i name x h k) ∙ ap (λ n. each_named f (take n names) (take n xs)) (sym (add-one i)))
 
-  pub named-all : (v b : List ℕ) (names : List (List ℕ)) (xs : List X) (i : ℕ) → length names ≤ i → length xs ≤ i → b ≡ v ++ flat_map line_text (each_named f (take i names) (take i xs))
-      → b ≡ v ++ flat_map line_text (each_named f names xs)
-  named-all v b names xs i h k p = p ∙ (λ j. v ++ flat_map line_text (each_named f (take_all names i h j) (take_all xs i k j)))
-
 pub name_at-get : (names : List (List ℕ)) (i : ℕ) (name : List ℕ) → slice_get names i ≡ Some name → name_at names i ≡ name
 name_at-get names i name h = get_or_from_slice_get names i name [] h
 
 -- the element at a place
 pub at_place : {X : Type 0} (xs : List X) (i : ℕ) (d : X) → i < length xs → slice_get xs i ≡ Some (slice_index_or xs i d)
 at_place xs i d h = slice_get-get_or xs i d h
-
--- a line is its text
-pub one_line : (a b : List ℕ) (line : ModelLine) → b ≡ a ++ line_text line → b ≡ a ++ flat_map line_text (line ∷ [])
-one_line a b line h = h ∙ ap (λ t. a ++ t) (sym (append-nil (line_text line)))
 
 -- ---- lines
 
@@ -154,10 +146,3 @@ part-whole v a b c d net p named action f g h i j k =
   where
     joined : (v x y a b c d : List ℕ) → a ≡ v ++ codes " " → b ≡ a ++ x → c ≡ b ++ codes "." → d ≡ c ++ y → d ≡ v ++ ((codes " " ++ (x ++ codes "." ++ y)) ++ [])
     joined v x y a b c d h i j k = rw (k, j, i, h) (simp (append_assoc, append-nil))
-
--- ---- a network
-
-pub network-whole : (v a b c : List ℕ) (components events : List ModelLine) → a ≡ codes "des 1\n" → b ≡ a ++ flat_map line_text components → c ≡ b ++ flat_map line_text events
-    → c ≡ codes "des 1\n" ++ flat_map line_text (components ++ events)
-network-whole v a b c components events h i j =
-    rw (j, i, h) (simp append_assoc) ∙ ap (λ t. codes "des 1\n" ++ t) (sym (flat_map-append line_text components events))

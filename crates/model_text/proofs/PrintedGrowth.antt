@@ -27,6 +27,7 @@ use Rattle.model_text.proofs.GrowthLemmas.{change_at-last, slice_get-last, slice
 use Rattle.model_text.proofs.NumberLemmas.{KeepsPlaces, KeepsPlaces-itself, KeepsPlaces-with_action}
 use Rattle.model_text.proofs.ReadOrder.{placed_action}
 use Rattle.model_text.proofs.StepLemmas.{event_refusal-known}
+use Rattle.des_net.proofs.DraftLemmas.{trans_count-none}
 
 -- each of the lines adds to the network of the lines before it, and so the first network grows to the last
 abbrev pub AllGrow : Net → List ModelLine → Net → Type 0
@@ -294,14 +295,10 @@ module _ (net : Net) (d : IsDraft net) where
 
 -- ---- the whole network
 
-empty_count : trans_count [] ≡ 0
-unfolding trans_count
-empty_count = refl
-
 pub network_grows : (net : Net) → IsDraft net → IsNetwork net → IsAsRead net → AllGrow no_net (lines_of_network net) net
 network_grows net d whole r =
     AllGrow-append no_net (with_events net [] []) net (each_named lines_of_component net.component_names net.components) (each_named (line_of_event net) net.event_names net.events)
     (components_grow no_net net.component_names net.components d.named d.component_names.each d.component_names.distinct (let f = d.few_comps in omega arith)
-    (recursion_from_All IsDraftComponent net.components d.components.each) (recursion_from_All IsInOrder net.components r.components) (let f = d.few_trans in omega (arith, empty_count)))
+    (recursion_from_All IsDraftComponent net.components d.components.each) (recursion_from_All IsInOrder net.components r.components) (let f = d.few_trans in omega (arith, trans_count-none)))
     (events_grow net d [] [] net.event_names net.events d.called d.event_names.each d.event_names.distinct (let f = d.few_events in omega arith)
     whole.events (recursion_from_All (IsDraftEvent net.components) net.events d.events.each) (recursion_from_All HasNamedLabel net.events r.events))

@@ -1,8 +1,8 @@
 -- Line by line: the network of the lines so far, and what is still to come.
-use Rattle.std.proofs.Common.{◌≡◌, ℕ, List, [], ◌∷◌, ◌++◌, Option, None, Some, refl, ap, sym, ◌∙◌, subst, append_assoc, append-nil, Err}
+use Rattle.std.proofs.Common.{◌≡◌, ℕ, List, [], ◌∷◌, ◌++◌, Option, None, Some, refl, ap, sym, ◌∙◌, subst, append_assoc, Err}
 use Rattle.std.specs.List.{cons_option}
 use Rattle.des_base.specs.CountedLines.{NumberedLine, tokens_of}
-use Rattle.des_net.specs.Network.{Net, no_net}
+use Rattle.des_net.specs.Network.{Net}
 use Rattle.des_net.specs.Building.{IsDraft}
 use Rattle.model_text.specs.ModelLines.{ModelLine, model_line}
 use Rattle.model_text.specs.ModelNetwork.{network_of_lines, model_lines}
@@ -15,7 +15,7 @@ use Rattle.model_text.specs.LineCodes.{code_by, code_by_tokens, IsCoded}
 use Rattle.model_text.specs.Refusals.{line_refusal_at}
 use Rattle.model_text.specs.GrowthLaw.{HasNames, Grows}
 use Rattle.model_text.proofs.LawLemmas.{lines_grow}
-use Rattle.model_text.proofs.HasNamesLemmas.{HasNames-grown, HasNames-none}
+use Rattle.model_text.proofs.HasNamesLemmas.{HasNames-grown}
 
 -- the lines before the rest have no code, and the network is theirs
 pub record IsReadTo (all rest : List NumberedLine) (net : Net) : Type 0 where
@@ -24,9 +24,6 @@ pub record IsReadTo (all rest : List NumberedLine) (net : Net) : Type 0 where
   pub lines : model_lines all ≡ earlier ++ model_lines rest
   pub codes : first_model_code [] all ≡ first_model_code earlier rest
   pub names : HasNames net
-
-pub IsReadTo-start : (all : List NumberedLine) → IsReadTo all all no_net
-IsReadTo-start all = record { earlier = []; network = refl; lines = refl; codes = refl; names = HasNames-none }
 
 module _ (all rest : List NumberedLine) (line : NumberedLine) (net : Net) (so_far : IsReadTo all (line ∷ rest) net) (draft : IsDraft net) where
   draft_before : IsDraft (network_of_lines so_far.earlier)
@@ -75,7 +72,3 @@ module _ (all rest : List NumberedLine) (line : NumberedLine) (net : Net) (so_fa
   stopped Unknown h = found 5 h
   stopped Limit h = found 8 h
   stopped Memory h = tt
-
--- at the end the network is that of all lines
-pub network_of_all : (all : List NumberedLine) (net : Net) → IsReadTo all [] net → (first_model_code [] all ≡ None) × (net ≡ network_of_lines (model_lines all))
-network_of_all all net read = (read.codes, read.network ∙ ap network_of_lines (sym (read.lines ∙ append-nil read.earlier)))

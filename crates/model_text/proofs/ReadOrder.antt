@@ -18,8 +18,8 @@ use Rattle.model_text.specs.ModelNetwork.{each_once}
 use Rattle.model_text.specs.Growth.{grown, grown_by_event, grown_by_transition, last_place, last_states, parts_by_name}
 use Rattle.model_text.specs.PrintedModel.{name_at}
 use Rattle.model_text.specs.ReadBack.{AreNew, HasNamedLabel, IsAsRead, IsInOrder, actions_taken}
-use Rattle.model_text.proofs.AdditionFacts.{fits_state, fits_transition, is_added, nothing}
-use Rattle.model_text.proofs.CodeLemmas.{All-slice_get}
+use Rattle.model_text.proofs.AdditionFacts.{fits_state, fits_transition, is_added}
+use Rattle.model_text.proofs.CodeLemmas.{All-slice_get, nothing}
 use Rattle.model_text.proofs.NumberLemmas.{each_once-push, place_of-new, text_at}
 
 -- ---- one more transition

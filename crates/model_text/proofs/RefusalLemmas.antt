@@ -13,7 +13,7 @@ use Rattle.des_net.specs.declared.refusal.BuildRefusal.{BuildRefusal}
 use Rattle.des_net.specs.declared.refusal.BuildRefusal.TheVariants as builder
 use Rattle.des_net.specs.Network.{Component as Automaton, Net, no_component, component_at}
 use Rattle.des_base.specs.Refusing.{SucceedsUnless}
-use Rattle.des_net.specs.Building.{IsDraft, state_refusal, trans_refusal, event_refusal, has_trans, trans_count, repeats, component_refusal}
+use Rattle.des_net.specs.Building.{IsDraft, state_refusal, trans_refusal, event_refusal, has_trans, trans_count, repeats}
 use Rattle.model_text.specs.declared.refusal.LineRefusal.{LineRefusal}
 use Rattle.model_text.specs.declared.refusal.LineRefusal.TheVariants as line
 use Rattle.model_text.specs.declared.part_name.PartName.{PartName}
@@ -22,12 +22,12 @@ use Rattle.model_text.specs.ModelLines.{ModelLine, component, state, transition,
 use Rattle.model_text.specs.ModelFaults.{has_repeated, stands_in, names_of_line}
 use Rattle.model_text.specs.Refusals.{refusal_of_build}
 use Rattle.model_text.specs.Growth.{last_place, last_states, parts_by_name}
-use Rattle.model_text.specs.LineCodes.{first_of, has_placed, has_named, is_without_components, code_by, code_by_tokens, IsCoded}
+use Rattle.model_text.specs.LineCodes.{first_of, has_placed, is_without_components, code_by, code_by_tokens, IsCoded}
 use Rattle.model_text.specs.LineAdditions.{AddsLine, IsNamedInLine, IsLabelled}
 use Rattle.model_text.proofs.CodeLemmas.{limited, state_refusal-at, trans_refusal-at}
 use Rattle.model_text.proofs.PartLemmas.{all_found, all_there, all_repeated}
 use Rattle.model_text.proofs.StepLemmas.{event_refusal-known, length_all}
-use Rattle.std.proofs.lemmas.Bool.{and_left, and_right}
+use Rattle.std.proofs.lemmas.Bool.{and_right}
 use Rattle.std.specs.Option.{option_to_list}
 
 -- a double, or a limit
@@ -59,16 +59,6 @@ one_name : (name : List ℕ) (b : Bool) → is_name_text name ≡ b → list_all
 one_name name true h = rw h refl
 one_name name false h = rw h refl
 
--- ---- a component
-
-pub component-unnamed : (net : Net) (name : List ℕ) → is_name_text name ≡ false → code_by net (component name) ≡ Some 3
-component-unnamed net name h = unnamed false (list_all is_name_text (name ∷ [])) (stands_in net.component_names name) false (nat_le 1000 (length net.components)) refl (one_name name false h)
-
-pub component-refused : (net : Net) (name : List ℕ) (r : BuildRefusal) → is_name_text name ≡ true → SucceedsUnless {X = ℕ} (component_refusal net name) builder.Memory (Err r) → IsCoded (code_by net (component name)) (refusal_of_build r)
-component-refused net name r h answered =
-    by_limits (stands_in net.component_names name) (nat_le 1000 (length net.components)) _ (component_refusal net name) r
-    (ap (λ b. first_of false b (stands_in net.component_names name) false (nat_le 1000 (length net.components))) (one_name name true h)) refl answered
-
 -- ---- before any component
 
 homeless : (b named double unknown past : Bool) → b ≡ true → first_of b named double unknown past ≡ Some 7
@@ -76,14 +66,6 @@ homeless b named double unknown past h = rw h refl
 
 none_there : (net : Net) → length net.components ≡ 0 → is_without_components net ≡ true
 none_there net h = ap (λ n. nat_le n 0) h
-
-pub state-homeless : (net : Net) (name : List ℕ) (initial : Bool) → length net.components ≡ 0 → code_by net (state name initial) ≡ Some 7
-state-homeless net name initial h = homeless (is_without_components net) (list_all is_name_text (name ∷ [])) (stands_in (last_states net) name) false (nat_le 256 (length (last_states net))) (none_there net h)
-
-pub transition-homeless : (net : Net) (from action to : List ℕ) → length net.components ≡ 0 → code_by net (transition from action to) ≡ Some 7
-transition-homeless net from action to h =
-    homeless (is_without_components net) (list_all is_name_text (from ∷ action ∷ to ∷ [])) (has_named (component_at net (last_place net)) from action to)
-    (not (stands_in (last_states net) from && stands_in (last_states net) to)) (nat_le 50000 (trans_count net.components)) (none_there net h)
 
 -- ---- the component that was begun last
 
@@ -100,9 +82,6 @@ module _ (net : Net) (comp : ℕ) (current : comp + 1 ≡ length net.components)
   at : slice_get net.components comp ≡ Some last
   at = slice_get-get_or net.components comp no_component (omega arith) ∙ ap (λ i. Some (get_or net.components i no_component)) place
 
-  pub state-unnamed : (name : List ℕ) (initial : Bool) → is_name_text name ≡ false → code_by net (state name initial) ≡ Some 3
-  state-unnamed name initial h = unnamed (is_without_components net) (list_all is_name_text (name ∷ [])) (stands_in (last_states net) name) false (nat_le 256 (length (last_states net))) some (one_name name false h)
-
   pub state-refused : (name : List ℕ) (initial : Bool) (r : BuildRefusal) → is_name_text name ≡ true → SucceedsUnless {X = ℕ} (state_refusal net.components comp name) builder.Memory (Err r) → IsCoded (code_by net (state name initial)) (refusal_of_build r)
   state-refused name initial r h answered =
       by_limits (stands_in (last_states net) name) (nat_le 256 (length (last_states net))) _ (state_refusal net.components comp name) r
@@ -112,11 +91,6 @@ module _ (net : Net) (comp : ℕ) (current : comp + 1 ≡ length net.components)
   pub state-given : (text name : List ℕ) (initial : Bool) (r : BuildRefusal) → IsNamedInLine text (Ok name) → SucceedsUnless {X = ℕ} (state_refusal net.components comp name) builder.Memory (Err r) → IsCoded (code_by net (state text initial)) (refusal_of_build r)
   state-given text name initial r named answered =
       state-refused text initial r named.1 (subst (λ (n : List ℕ). SucceedsUnless {X = ℕ} (state_refusal net.components comp n) builder.Memory (Err r)) named.0 answered)
-
-  -- a transition with a word that is no name
-  pub transition-unnamed : (from action to : List ℕ) → (is_name_text from && (is_name_text action && (is_name_text to && true))) ≡ false → code_by net (transition from action to) ≡ Some 3
-  transition-unnamed from action to h =
-      unnamed (is_without_components net) (list_all is_name_text (from ∷ action ∷ to ∷ [])) (has_named last from action to) (not (stands_in (last_states net) from && stands_in (last_states net) to)) (nat_le 50000 (trans_count net.components)) some h
 
   -- one of whose states isn't known
   pub transition-unknown : (from action to : List ℕ) (o p : Option ℕ) → (is_name_text from && (is_name_text action && (is_name_text to && true))) ≡ true → place_of from last.state_names ≡ o → place_of to last.state_names ≡ p
@@ -197,12 +171,6 @@ module _ (net : Net) (name : List ℕ) (label : Option (List ℕ)) (fault : Bool
   unnamed_event : (front && part_words parts) ≡ false → code_by net (event name label fault parts) ≡ Some 3
   unnamed_event h = unnamed false (list_all is_name_text (names_of_line (event name label fault parts))) double (not (is_some (parts_by_name net parts))) past refl (words ∙ h)
 
-  pub event-name_unnamed : is_name_text name ≡ false → code_by net (event name label fault parts) ≡ Some 3
-  event-name_unnamed h = unnamed_event (and_left front (part_words parts) (and_left (is_name_text name) (list_all is_name_text (option_to_list label)) h))
-
-  pub event-label_unnamed : list_all is_name_text (option_to_list label) ≡ false → code_by net (event name label fault parts) ≡ Some 3
-  event-label_unnamed h = unnamed_event (and_left front (part_words parts) (and_right (is_name_text name) (list_all is_name_text (option_to_list label)) h))
-
   pub event-part_unnamed : part_words parts ≡ false → code_by net (event name label fault parts) ≡ Some 3
   event-part_unnamed h = unnamed_event (and_right front (part_words parts) h)
 
@@ -265,12 +233,3 @@ no_name code text line.Double h f = absurd h
 no_name code text line.Unknown h f = absurd h
 no_name code text line.Limit h f = absurd h
 no_name code text line.Memory h f = tt
-
-pub no_label : (code : Option ℕ) (label : Option (List ℕ)) (e : LineRefusal) → IsLabelled label (Err e) → (list_all is_name_text (option_to_list label) ≡ false → code ≡ Some 3) → IsCoded code e
-no_label code label line.Shape h f = absurd h
-no_label code label line.Homeless h f = absurd h
-no_label code label line.Name h f = f h
-no_label code label line.Double h f = absurd h
-no_label code label line.Unknown h f = absurd h
-no_label code label line.Limit h f = absurd h
-no_label code label line.Memory h f = tt

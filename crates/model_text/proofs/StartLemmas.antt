@@ -1,22 +1,13 @@
 -- The lines that begin a component.
-use Rattle.std.proofs.Common.{◌≡◌, ℕ, Bool, true, false, cond, List, [], ◌∷◌, Option, None, Some, refl, ap}
+use Rattle.std.proofs.Common.{◌≡◌, ℕ, Bool, true, false, cond, List, [], ◌∷◌, Option, None, Some, refl}
 use Rattle.std.specs.Prelude.{bytes_eq, codes, option_map}
-use Rattle.std.specs.List.{cons_option}
 use Rattle.std.specs.Option.{option_map_or}
 use Rattle.des_base.specs.CountedLines.{NumberedLine, tokens_of}
 use Rattle.model_text.specs.ModelLines.{ModelLine, state, event, NamedPart, model_line, parts_of_tokens, state_line, transition_line, event_line, after_flags, after_label}
 use Rattle.model_text.specs.ModelNetwork.{begins_component}
-use Rattle.model_text.specs.ModelFaults.{component_numbers}
 
 abbrev pub begins : NumberedLine → Bool
 begins line = option_map_or begins_component (model_line (tokens_of line.text)) false
-
--- a line that begins none is passed over
-pub component_numbers-pass : (line : NumberedLine) (lines : List NumberedLine) → begins line ≡ false → component_numbers (line ∷ lines) ≡ component_numbers lines
-component_numbers-pass line lines h = ap (λ b. cons_option (cond b (Some line.number) None) (component_numbers lines)) h
-
-pub component_numbers-here : (line : NumberedLine) (lines : List NumberedLine) → begins line ≡ true → component_numbers (line ∷ lines) ≡ line.number ∷ component_numbers lines
-component_numbers-here line lines h = ap (λ b. cons_option (cond b (Some line.number) None) (component_numbers lines)) h
 
 -- ---- a line that begins no component
 

@@ -4,7 +4,6 @@ use Rattle.std.specs.Bool.{beq}
 use Rattle.std.specs.List.{AllByRecursion, list_any}
 use Rattle.std.proofs.lemmas.Bool.{and_parts, eqb-true, eq-eqb, false_from_ne_true}
 use Rattle.std.proofs.lemmas.Option.{same_Some}
-pub use Rattle.std.proofs.lemmas.Option.{same_Some as some_literal}
 use Rattle.des_base.proofs.BoolLemmas.{itself}
 use Rattle.des_base.proofs.Elements.{all_at}
 use Rattle.prop_core.specs.declared.lit.Lit.{Lit}

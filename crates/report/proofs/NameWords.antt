@@ -1,11 +1,11 @@
 -- Names as words of a line, and the places of distinct names.
-use Rattle.std.proofs.Common.{◌≡◌, ◌<◌, ℕ, zero, suc, Bool, true, false, List, [], ◌∷◌, ◌++◌, length, Option, Some, None, cond, refl, arith, ap}
+use Rattle.std.proofs.Common.{◌≡◌, ◌<◌, ℕ, zero, suc, true, false, List, [], ◌∷◌, ◌++◌, length, Some, None, cond, refl, arith, ap}
 use Rattle.std.proofs.lemmas.Bool.Decides.{nat_tests}
 use Rattle.std.proofs.lemmas.Slice.Eq.{bytes_eq-Decides}
 use Rattle.std.specs.Prelude.{◌==◌, bytes_eq, codes, option_map, slice_index_or}
 use Rattle.std.specs.List.{list_all, AllByRecursion}
 use Rattle.des_base.proofs.BoolLemmas.{both, otherwise}
-use Rattle.des_base.proofs.PlaceLemmas.{text_turned, text_itself}
+use Rattle.des_base.proofs.PlaceLemmas.{text_turned, text_itself, place_next, none_parts}
 use Rattle.des_base.proofs.PrintedLines.{IsNameText}
 use Rattle.des_base.specs.CountedLines.{is_blank, is_counted}
 use Rattle.des_base.specs.Names.{AreDistinct, IsName, is_name_byte, is_name_text, place_of}
@@ -31,26 +31,18 @@ name_counts (c ∷ cs) rest h = first_counts c (cs ++ rest) (both (is_name_byte 
 
 -- ---- places
 
-absent_step : (b : Bool) (o : Option ℕ) → cond b (Some 0) (option_map suc o) ≡ None → (b ≡ false) × (o ≡ None)
-absent_step true o h = cc
-absent_step false None h = (refl, refl)
-absent_step false (Some k) h = cc
-
 -- a text that has no place is not at any
 other_text : (text : List ℕ) (names : List (List ℕ)) (k : ℕ) → k < length names → place_of text names ≡ None → bytes_eq (slice_index_or names k []) text ≡ false
 other_text text [] k l h = absurd (omega arith)
-other_text text (name ∷ names) zero l h = text_turned text name (absent_step (bytes_eq text name) (place_of text names) h).0
-other_text text (name ∷ names) (suc k) l h = other_text text names k (omega arith) (absent_step (bytes_eq text name) (place_of text names) h).1
-
-place_step : (b : Bool) (o : Option ℕ) (k : ℕ) → b ≡ false → o ≡ Some k → cond b (Some 0) (option_map suc o) ≡ Some (suc k)
-place_step b o k h e = rw (h, e) refl
+other_text text (name ∷ names) zero l h = text_turned text name (none_parts (bytes_eq text name) (place_of text names) h).0
+other_text text (name ∷ names) (suc k) l h = other_text text names k (omega arith) (none_parts (bytes_eq text name) (place_of text names) h).1
 
 -- each of distinct names has its own place
 pub own_place : (names : List (List ℕ)) (k : ℕ) → AreDistinct names → k < length names → place_of (slice_index_or names k []) names ≡ Some k
 own_place [] k distinct l = absurd (omega arith)
 own_place (name ∷ names) zero distinct l = ap (λ b. cond b (Some 0) (option_map suc (place_of name names))) (text_itself name)
 own_place (name ∷ names) (suc k) distinct l =
-    place_step (bytes_eq (slice_index_or names k []) name) (place_of (slice_index_or names k []) names) k
+    place_next (bytes_eq (slice_index_or names k []) name) (place_of (slice_index_or names k []) names) k
     (other_text name names k (omega arith) distinct.0) (own_place names k distinct.1 (omega arith))
 
 -- a name isn't the mark of a false alarm

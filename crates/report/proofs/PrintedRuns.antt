@@ -1,5 +1,5 @@
 -- The lines of a run as it is printed, and what is read of them.
-use Rattle.std.proofs.Common.{◌≡◌, ◌<◌, ◌≤◌, ◌+◌, ◌-◌, ◌^◌, ℕ, suc, Bool, true, false, not, List, [], ◌∷◌, ◌++◌, length, Option, Some, None, IfSome, is_none, cond, refl, arith, ap, ◌∙◌, append_assoc, append-nil}
+use Rattle.std.proofs.Common.{◌≡◌, ◌<◌, ◌≤◌, ◌+◌, ◌-◌, ◌^◌, ℕ, suc, Bool, true, false, not, List, [], ◌∷◌, ◌++◌, length, Option, Some, None, IfSome, is_none, cond, refl, arith, ap, ◌∙◌, append_assoc, append-nil, sub-one}
 use Rattle.std.proofs.lemmas.Bool.Decides.{nat_tests}
 use Rattle.std.proofs.lemmas.List.Elements.{All-head, All-tail}
 use Rattle.std.specs.Prelude.{◌&&◌, ◌||◌, nat_lt, nat_le, All, codes, flat_map, slice_index_or, option_map, ⊤}
@@ -192,9 +192,6 @@ unfolding step_lines
 step_lines-length net n [] = refl
 step_lines-length net n (step ∷ steps) = ap suc (step_lines-length net (n + 1) steps)
 
-one_less : (n : ℕ) → suc n - 1 ≡ n
-one_less n = omega arith
-
 no_fault_in : (net : Net) (n : ℕ) (steps : List RunStep) → AreNamed net steps → first_fault_in net (length steps) (step_lines net n steps) ≡ None
 unfolding step_lines
 no_fault_in net n [] h = refl
@@ -203,7 +200,7 @@ no_fault_in net n (step ∷ steps) h =
     let later = first_fault_in net (suc (length steps) - 1) (step_lines net (n + 1) steps) in
     ap (λ words. option_or (run_fault_at n (step_code net (suc (length steps)) words)) later) reads.tokens
     ∙ ap (λ code. option_or (run_fault_at n code) later) (named_has_no_code net (suc (length steps)) step (omega arith) h.0)
-    ∙ ap (λ left. first_fault_in net left (step_lines net (n + 1) steps)) (one_less (length steps))
+    ∙ ap (λ left. first_fault_in net left (step_lines net (n + 1) steps)) (sub-one (suc (length steps)))
     ∙ no_fault_in net (n + 1) steps h.1
 
 nothing_short : (end stated found : ℕ) → found ≡ stated → shortage end stated found ≡ None

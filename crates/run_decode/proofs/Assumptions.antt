@@ -1,5 +1,6 @@
 -- Assumptions don't contradict each other: guards alone are assumed to be true, and the bound to be false.
 use Rattle.std.proofs.Common.{◌≡◌, ◌≢◌, ◌∙◌, ℕ, suc, zero, Bool, true, false, not, List, [], ◌∷◌, length, Option, Some, None, refl, sym, ap, subst, map, option_map}
+use Rattle.std.proofs.lemmas.Option.{same_Some}
 use Rattle.std.specs.List.{AllByRecursion}
 use Rattle.des_base.proofs.Elements.{all_append, all_from}
 use Rattle.des_base.specs.Lists.{EachPair}
@@ -8,7 +9,6 @@ use Rattle.log_clauses.proofs.Codes.{read_of}
 use Rattle.log_clauses.proofs.Lists.{all_at}
 use Rattle.log_clauses.specs.LogClauses.{chain, guard_literals}
 use Rattle.log_order.specs.Log.{Log}
-use Rattle.prop_core.proofs.NameLemmas.{some_literal}
 use Rattle.prop_core.specs.Clauses.{negation}
 use Rattle.prop_core.specs.VariableNames.{Meaning, in_state, happens, asked, matches, done, unmatched, closed, dropped, reaches, some_of_first, NamedLiteral, yes, meaning_of, named_literal, named_clause, ReadsAs}
 use Rattle.prop_core.specs.declared.lit.Lit.{Lit}
@@ -59,7 +59,7 @@ literal_signed names l m h sign = by (meaning_of names l.var) refl h
   where
     by : (o : Option Meaning) → meaning_of names l.var ≡ o → option_map (λ (meaning : Meaning). record { meaning = meaning; positive = l.positive }) o ≡ Some m → HasNamedSign names l
     by None e is = cc
-    by (Some meaning) e is = (meaning, e, subst HasSign (sym (some_literal (record { meaning = meaning; positive = l.positive }) m is)) sign)
+    by (Some meaning) e is = (meaning, e, subst HasSign (sym (same_Some (record { meaning = meaning; positive = l.positive }) m is)) sign)
 
 literals_signed : (names : List (ℕ × Meaning)) (literals : List Lit) (read : List NamedLiteral) → named_clause names literals ≡ Some read → AllByRecursion HasSign read → AllByRecursion (HasNamedSign names) literals
 literals_signed names [] read h signs = tt

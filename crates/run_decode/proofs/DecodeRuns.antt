@@ -2,7 +2,7 @@
 use Rattle.std.proofs.Common.{◌≡◌, ℕ, zero, suc, ◌+◌, ◌<◌, ◌≤◌, ◌∙◌, Bool, true, false, List, [], ◌∷◌, ◌++◌, length, map, flat_map, filter, filter_map, Option, Some, None, refl, sym, ap, subst, arith, slice_index_or, not, ◌&&◌, length-append}
 use Rattle.std.specs.Prelude.{is_some}
 use Rattle.std.specs.List.{AllByRecursion, range_with_len}
-use Rattle.des_base.proofs.Elements.{all_from, map_has}
+use Rattle.des_base.proofs.Elements.{all_from, map_has, filter_from}
 use Rattle.des_base.specs.Lists.{numbers_below}
 use Rattle.des_net.specs.Network.{Net, IsNetwork, label_of}
 use Rattle.des_net.specs.Width.{joined, IsPiece}
@@ -10,7 +10,7 @@ use Rattle.log_order.specs.Log.{Log, ListsOnce, Keeps, IsValidLog}
 use Rattle.log_clauses.specs.Decoded.{alarm_event, comes, is_false_alarm, shown_at, unobservables, arranged, decoded}
 use Rattle.log_clauses.specs.LogLaws.{IsArranged}
 use Rattle.log_clauses.specs.LogTruth.{LogClausesHold, GuardsHold}
-use Rattle.log_clauses.proofs.Lists.{filter_from, all_at}
+use Rattle.log_clauses.proofs.Lists.{all_at}
 use Rattle.log_clauses.proofs.Sound.{log_is_sound, real_at}
 use Rattle.log_encode.proofs.TakenLemmas.{map_count}
 use Rattle.log_encode.specs.CodedLog.{without_names}

@@ -4,11 +4,11 @@ use Rattle.std.specs.List.{range_with_len}
 use Rattle.std.proofs.lemmas.List.Sums.{sum_by-append, length-filter}
 use Rattle.card_counter.proofs.Counts.{count_cons}
 use Rattle.des_base.proofs.NumbersBelow.{range_once}
+use Rattle.des_base.proofs.Elements.{filter_has, filter_from, pairs_filter}
 use Rattle.des_base.specs.Lists.{numbers_below}
 use Rattle.des_net.specs.Network.{Net, is_fault}
 use Rattle.des_net.specs.Width.{joined}
 use Rattle.log_clauses.proofs.Entries.{same_size}
-use Rattle.log_clauses.proofs.Lists.{filter_has, filter_from, pairs_filter}
 use Rattle.log_clauses.specs.Decoded.{is_false_alarm}
 use Rattle.log_order.specs.Log.{Log, is_doubtful}
 use Rattle.log_clauses.proofs.Pieces.{IsStepSet, AreFrom, pieces_are_steps}

@@ -1,9 +1,9 @@
 -- What reads by the names of a question reads by further names, among which they are.
 use Rattle.std.proofs.Common.{◌≡◌, ◌≢◌, ℕ, List, [], ◌∷◌, ◌++◌, map, subst, Contains}
 use Rattle.std.proofs.lemmas.List.Elements.{Contains-append_left as append_left}
-use Rattle.des_base.proofs.Elements.{all_from, map_from, map_has}
+use Rattle.des_base.proofs.Elements.{all_from, map_from, map_has, pairs_append}
 use Rattle.log_clauses.proofs.Codes.{named_entry}
-use Rattle.log_clauses.proofs.Lists.{all_at, pairs_append}
+use Rattle.log_clauses.proofs.Lists.{all_at}
 use Rattle.prop_core.proofs.FurtherNames.{reads_further}
 use Rattle.prop_core.specs.Clauses.{Clause}
 use Rattle.prop_core.specs.VariableNames.{Meaning, NamedLiteral, HasEachOnce, ReadsAs}

@@ -1,5 +1,6 @@
 -- The runs that assignments give, and how many faults they have.
 use Rattle.std.proofs.Common.{◌≡◌, ◌∙◌, ℕ, Bool, List, [], ◌∷◌, length, Some, sym, ap, arith, cond, count_by}
+use Rattle.std.proofs.lemmas.Option.{same_Some}
 use Rattle.card_counter.proofs.Counts.{count_cons}
 use Rattle.des_net.specs.Network.{Net, IsNetwork}
 use Rattle.log_clauses.proofs.Codes.{read_of}
@@ -39,10 +40,7 @@ decoded_by_name net log n value alarms network valid complete kept steps logged 
 -- as many literals are true as names that they read as
 count_read : (names : List (ℕ × Meaning)) (assignment : ℕ → Bool) (value : Meaning → Bool) → Match names assignment value → (literals : List Lit) (read : List NamedLiteral) → named_clause names literals ≡ Some read →
     count_by (literal_true assignment) literals ≡ count_by (named_true value) read
-count_read names assignment value match [] read h = ap (count_by (named_true value)) (none_is read h)
-  where
-    none_is : (r : List NamedLiteral) → Some [] ≡ Some r → [] ≡ r
-    none_is r q = cc
+count_read names assignment value match [] read h = ap (count_by (named_true value)) (same_Some [] read h)
 count_read names assignment value match (l ∷ literals) read h =
     let parts = read_of names l literals read h in
     let here = literal_is names assignment value l parts.first match parts.literal in

@@ -6,7 +6,7 @@ use Rattle.card_counter.proofs.States.{place_cases, variable_before, variable_la
 use Rattle.card_counter.proofs.Inputs.{inputs_grow, place_cases as places_with_input}
 use Rattle.card_counter.specs.CounterClauses.{IsNamedCount}
 use Rattle.card_counter.specs.CounterState.{CounterState, IsCounter, IsMade, IsPlace, variable, counter_meanings, counter_clauses, bound_literal, without_columns, with_column, with_input, HasInput}
-use Rattle.log_clauses.proofs.Lists.{all_at, pairs_append}
+use Rattle.log_clauses.proofs.Lists.{all_at}
 use Rattle.log_clauses.proofs.Numbered.{laid_out_from}
 use Rattle.log_clauses.specs.Additions.{Addition, alarm_added, pair_added}
 use Rattle.log_clauses.specs.Drafts.{taken_events}
@@ -38,6 +38,7 @@ use Rattle.std.proofs.lemmas.List.Elements.{Contains-append_cases, Contains-appe
 use Rattle.step_encode.proofs.Codes.{grid_ends}
 use Rattle.step_encode.specs.Coded.{CodedSteps, code_meanings, code_grid, variable_count}
 use Rattle.step_encode.specs.FaultInputs.{fault_literals}
+use Rattle.des_base.proofs.Elements.{pairs_append}
 
 module _ (steps : CodedSteps) (code : CodedLog) (counter : CounterState) (together : AreCodedTogether steps code counter) where
   record IsCounterEntry (entry : ℕ × Meaning) : Type 0 where

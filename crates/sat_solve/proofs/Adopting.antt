@@ -1,5 +1,5 @@
 -- The clauses of a book as they are attached, one after another.
-use Rattle.std.proofs.Common.{◌≡◌, ◌∙◌, ℕ, ◌+◌, ◌-◌, ◌<◌, ◌≤◌, Bool, false, ◌++◌, ◌∷◌, [], List, refl, ap, sym, length, take, drop, zero, suc, get_or, arith, subst, inl, inr, ⊎_elim, eqb}
+use Rattle.std.proofs.Common.{◌≡◌, ◌∙◌, ℕ, ◌+◌, ◌-◌, ◌<◌, ◌≤◌, Bool, false, ◌++◌, ◌∷◌, [], List, ap, sym, length, take, drop, zero, suc, get_or, arith, subst, inl, ⊎_elim, eqb}
 use Rattle.std.specs.Prelude.{Option, Some, ◌⊎◌, Contains, IfSome}
 use Rattle.std.specs.List.{AllByRecursion}
 use Rattle.std.proofs.lemmas.Grind.{common_steps}
@@ -14,8 +14,9 @@ use Rattle.sat_prop.specs.Levels.{level_of}
 use Rattle.sat_prop.specs.Changes.{IsFront, with_attached_clause}
 use Rattle.sat_prop.proofs.Fronts.{split_last, contains_more}
 use Rattle.sat_solve.specs.Solving.{SolverState, AllJoined, AreAtRest, HasAttached}
-use Rattle.sat_solve.proofs.Learning.{contains_last, wider}
+use Rattle.sat_solve.proofs.Learning.{contains_last}
 use Rattle.sat_solve.proofs.Standing.{each_below}
+use Rattle.prop_core.proofs.Literals.{wider}
 
 -- of the clauses so many are attached, where the trail began with its own
 pub record IsAdopting (start t : TrailState) (all : List Clause) (count : ℕ) : Type 0 where
@@ -26,17 +27,6 @@ pub record IsAdopting (start t : TrailState) (all : List Clause) (count : ℕ) :
   pub reasons : t.reasons ≡ start.reasons
   pub vars : t.vars ≡ start.vars
   pub spare : t.spare + count ≡ start.spare + length start.clauses
-
-pub adopting_none : (t : TrailState) (all : List Clause) (count : ℕ) → count ≡ length t.clauses → IsFront t.clauses all → AllJoined t.clauses t.attached → IsAdopting t t all count
-adopting_none t all count e f j = record {
-  front = f;
-  whole = inr e;
-  joined = λ n h. j n (omega arith);
-  literals = refl;
-  reasons = refl;
-  vars = refl;
-  spare = omega arith;
-}
 
 pub adopting_more : (start t u : TrailState) (all : List Clause) (count id next : ℕ) → IsAdopting start t all count → id ≡ count + 1 → next ≡ count + 1 → 1 ≤ t.spare → u ≡ with_attached_clause t all id → IsAdopting start u all next
 adopting_more start t u all count id next a i x h e =

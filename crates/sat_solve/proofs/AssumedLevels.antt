@@ -33,13 +33,6 @@ module _ (literals : List Lit) (reasons : List (Option ℕ)) (assumed : List Lit
         by_none None e z = by_reason None e ∙ ap (λ (b : Bool). cond b (1 + assumed_of (drop (place + 1) literals) (drop (place + 1) reasons) assumed) 0) t
         by_none (Some number) e z = absurd (let w : false ≡ true = z in cc)
 
-    pub assumed_ends : is_none (reason_at reasons place) ≡ true → is_true assumed (literal_at literals place) ≡ false → assumed_of (drop place literals) (drop place reasons) assumed ≡ 0
-    assumed_ends n t = by_none (reason_at reasons place) refl n
-      where
-        by_none : (r : Option ℕ) → reason_at reasons place ≡ r → is_none r ≡ true → assumed_of (drop place literals) (drop place reasons) assumed ≡ 0
-        by_none None e z = by_reason None e ∙ ap (λ (b : Bool). cond b (1 + assumed_of (drop (place + 1) literals) (drop (place + 1) reasons) assumed) 0) t
-        by_none (Some number) e z = absurd (let w : false ≡ true = z in cc)
-
     pub forced_passes : is_none (reason_at reasons place) ≡ false → assumed_of (drop place literals) (drop place reasons) assumed ≡ assumed_of (drop (place + 1) literals) (drop (place + 1) reasons) assumed
     forced_passes n = by_some (reason_at reasons place) refl n
       where

@@ -1,5 +1,5 @@
 -- The book as a search adds to it.
-use Rattle.std.proofs.Common.{◌≡◌, ◌∙◌, ℕ, ◌+◌, ◌-◌, ◌*◌, ◌<◌, ◌≤◌, Bool, true, false, ◌||◌, ◌++◌, ◌∷◌, [], List, refl, ap, sym, arith, subst, append_assoc, ⊎_elim}
+use Rattle.std.proofs.Common.{◌≡◌, ◌∙◌, ℕ, ◌+◌, Bool, true, false, ◌||◌, ◌++◌, ◌∷◌, [], List, refl, ap, sym, arith, subst, append_assoc, ⊎_elim}
 use Rattle.std.specs.Prelude.{count_by}
 use Rattle.std.specs.List.{list_any, list_all, filter_map}
 use Rattle.std.proofs.lemmas.Grind.{common_steps}
@@ -128,13 +128,3 @@ searched_both old book new first left last s r = record {
       };
   known = λ k. r.known (s.known k);
 }
-
--- how the search's measure falls
-pub smaller_learnt : (left last vars a b : ℕ) → last + 1 ≡ left → last * (vars + 1) + (vars - a) < left * (vars + 1) + (vars - b)
-smaller_learnt left last vars a b e =
-    let m : (last + 1) * (vars + 1) ≡ last * (vars + 1) + (vars + 1) = omega arith in
-    let k : left * (vars + 1) ≡ last * (vars + 1) + (vars + 1) = ap (λ (z : ℕ). z * (vars + 1)) (sym e) ∙ m in
-    omega arith
-
-pub smaller_grown : (left vars a b : ℕ) → b < a → a ≤ vars → left * (vars + 1) + (vars - a) < left * (vars + 1) + (vars - b)
-smaller_grown left vars a b h k = omega arith

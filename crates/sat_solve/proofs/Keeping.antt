@@ -23,11 +23,6 @@ use Rattle.sat_solve.proofs.Learning.{serving_attached, under_attached, under_sa
 use Rattle.sat_solve.proofs.Putting.{put_closed}
 use Rattle.sat_solve.proofs.Standing.{serving_kept, under_kept}
 
--- what holds anyway holds where memory was wanting
-pub on_err : {T E : Type 0} (r : Result T E) (P : Type 0) → P → OnErr r P
-on_err (Ok x) P h = tt
-on_err (Err e) P h = h
-
 -- none is taken at first
 pub taken_none : (literals assumed : List Lit) (taken : ℕ) → taken ≡ 0 → AreTaken literals assumed taken
 taken_none literals assumed taken e = rw e refl

@@ -10,7 +10,7 @@ use Rattle.prop_core.specs.Clauses.{Clause, same_literal, is_false, HasValues}
 use Rattle.prop_core.specs.Derivation.{standing, clause_numbered}
 use Rattle.prop_core.specs.Trail.{no_literal, has_var, HasVarsOnce, is_quiet, all_quiet}
 use Rattle.prop_core.proofs.Entailed.{same_itself}
-use Rattle.prop_core.proofs.Literals.{same_is, below_at, below_var, below_from, has_back, all_from, all_at, once_apart, open_shorter, open_var, place_found}
+use Rattle.prop_core.proofs.Literals.{same_is, below_var, below_from, has_back, all_from, all_at, once_apart, open_shorter, open_var, place_found, wider}
 use Rattle.prop_core.proofs.Forcing.{quiet_two}
 use Rattle.proof_ledger.specs.Book.{BookEntry, learnt, clauses_of}
 use Rattle.proof_ledger.specs.Fresh.{occurs, IsFreshClause}
@@ -95,9 +95,6 @@ below_one vars (c ∷ cs) v b k = ⊎_elim (λ e. below_var vars c v b.0 e) (λ 
 
 pub below_known : (vars : ℕ) (cs : List Clause) (c : Clause) → AllByRecursion (HasValues vars) cs → list_all (λ l. is_known_var cs l.var) c ≡ true → HasValues vars c
 below_known vars cs c b k = below_from vars c (λ x e. below_one vars cs x.var b (all_at (λ l. is_known_var cs l.var) c x k e))
-
-pub wider : (vars more : ℕ) (c : Clause) → vars ≤ more → HasValues vars c → HasValues more c
-wider vars more c h b = below_from more c (λ x e. let a = below_at vars c x b e in omega arith)
 
 pub known_last : (vars more : ℕ) (cs all : List Clause) (c : Clause) (n : ℕ) → all ≡ cs ++ c ∷ [] → n ≡ length all → AllByRecursion (HasValues vars) cs → list_all (λ l. is_known_var cs l.var) c ≡ true → vars ≤ more → IfSome (clause_numbered all n) (HasValues more)
 known_last vars more cs all c n e f b k h = subst (λ (o : Option Clause). IfSome o (HasValues more)) (sym (subst (λ (xs : List Clause). clause_numbered xs n ≡ Some c) (sym e) (held_last cs c n (f ∙ ap length e)))) (wider vars more c h (below_known vars cs c b k))

@@ -12,6 +12,7 @@ use Rattle.sat_prop.specs.TrailState.{TrailState, StandsAt}
 use Rattle.sat_prop.specs.Levels.{level_at}
 use Rattle.sat_solve.specs.LevelCount.{IsLevelOf, HasLevel, AreLevelsOf, is_marked_level, marked_of}
 use Rattle.sat_solve.proofs.Places.{held_more}
+use Rattle.des_base.proofs.BoolLemmas.{or_left}
 
 -- the variables of one literal more
 has_next : (clause : List Lit) (i v : ℕ) → i < length clause → has_var v (take (i + 1) clause) ≡ (has_var v (take i clause) || (eqb (get_or clause i no_literal).var v || false))
@@ -24,12 +25,8 @@ or_either true b e d = absurd (d refl)
 or_either false true e d = refl
 or_either false false e d = e
 
-or_first : (a b : Bool) → a ≡ true → (a || b) ≡ true
-or_first true b e = refl
-or_first false b e = let z : false ≡ true = e in cc
-
 earlier : (clause : List Lit) (i v : ℕ) → i < length clause → has_var v (take i clause) ≡ true → has_var v (take (i + 1) clause) ≡ true
-earlier clause i v h e = has_next clause i v h ∙ or_first (has_var v (take i clause)) (eqb (get_or clause i no_literal).var v || false) e
+earlier clause i v h e = has_next clause i v h ∙ or_left (has_var v (take i clause)) (eqb (get_or clause i no_literal).var v || false) e
 
 -- a level of these literals is one of the earlier ones, or of the last
 last_or : (t : TrailState) (clause : List Lit) (i level : ℕ) → i < length clause → HasLevel t (take (i + 1) clause) level → (HasLevel t (take i clause) level → ⊥) → IsLevelOf t (get_or clause i no_literal).var level

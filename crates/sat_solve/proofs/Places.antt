@@ -316,14 +316,6 @@ held_wider waiting more =
 pub set_waiting : (places : List ℕ) (var : ℕ) → var < length places → (get_or places var 0 ≡ ABSENT → ⊥) → slice_set (has_place places) var true ≡ has_place places
 set_waiting places var k d = ap (λ (b : Bool). set (has_place places) var b) (sym (waits_present places var k d)) ∙ set-get_or (has_place places) var false
 
--- put where it stands, nothing changes
-pub put_again : (vars places : List ℕ) (var place : ℕ) → ArePlaced vars places → var < length places → place ≡ get_or places var 0 → (place ≡ ABSENT → ⊥) → ArePlaced (slice_set vars place var) (slice_set places var place)
-put_again vars places var place f k e d =
-    let t : get_or places var 0 ≡ ABSENT → ⊥ = λ z. d (e ∙ z) in
-    let a : slice_set vars place var ≡ vars = ap (λ (v : ℕ). slice_set vars place v) (sym (ap (λ (i : ℕ). get_or vars i 0) e ∙ f.found var k t)) ∙ set-get_or vars place 0 in
-    let b : slice_set places var place ≡ places = ap (λ (i : ℕ). slice_set places var i) e ∙ set-get_or places var 0 in
-    rw (a, b) f
-
 -- put behind the last
 pub put_last : (vars places : List ℕ) (x : ℕ) → ArePlaced vars places → length vars < ABSENT → x < length places → get_or places x 0 ≡ ABSENT → ArePlaced (slice_set (vars ++ x ∷ []) (length vars) x) (slice_set places x (length vars))
 put_last vars places x f room known none = rw (set_at vars x [] x (length vars) refl) (appended vars places x f room known none)

@@ -14,10 +14,6 @@ use Rattle.sat_solve.specs.Solving.{HasLearnt, LearnsOne, IsClosed}
 pub learnt_none : (book : List BookEntry) → HasLearnt book book
 learnt_none book = record { since = []; whole = sym (append-nil book); all_learnt = refl }
 
--- where nothing is put
-pub put_for_sat : (book : List BookEntry) → HasPut book book Sat
-put_for_sat book = record { since = []; whole = sym (append-nil book); put = refl }
-
 pub put_for_spent : (book : List BookEntry) → HasPut book book Spent
 put_for_spent book = record { since = []; whole = sym (append-nil book); put = refl }
 

@@ -1,5 +1,5 @@
 -- A trail that serves a search, through propagation and decisions.
-use Rattle.std.proofs.Common.{◌≡◌, ◌∙◌, ℕ, ◌+◌, ◌-◌, ◌*◌, ◌<◌, ◌≤◌, Bool, true, false, not, ◌++◌, ◌∷◌, [], List, refl, ap, sym, length, take, drop, zero, suc, get_or, arith, subst, ⊎_elim, cond}
+use Rattle.std.proofs.Common.{◌≡◌, ◌∙◌, ℕ, ◌+◌, ◌-◌, ◌<◌, ◌≤◌, true, false, not, ◌++◌, ◌∷◌, [], List, refl, ap, sym, length, take, drop, zero, suc, get_or, arith, subst, ⊎_elim, cond}
 use Rattle.std.specs.Prelude.{Option, Some, None, ◌⊎◌, is_none}
 use Rattle.std.specs.List.{list_any, list_all, AllByRecursion}
 use Rattle.std.proofs.lemmas.Grind.{common_steps}
@@ -8,18 +8,18 @@ use Rattle.std.proofs.lemmas.List.Sums.{sum_by-take-drop}
 use Rattle.std.proofs.lemmas.List.Elements.{All-from_get_or, All-get_or, All-push, All-take}
 use Rattle.std.proofs.lemmas.Option.{get_or_from_slice_get}
 use Rattle.prop_core.specs.declared.lit.Lit.{Lit}
-use Rattle.prop_core.specs.Clauses.{Clause, same_literal, is_true, is_false, is_open, HasValues, AreConsistent}
+use Rattle.prop_core.specs.Clauses.{Clause, same_literal, is_true, is_false, HasValues, AreConsistent}
 use Rattle.prop_core.specs.Trail.{no_literal}
 use Rattle.prop_core.proofs.Literals.{below_at, place_found, true_at, all_at}
 use Rattle.sat_prop.specs.TrailState.{TrailState, literal_at, reason_at, IsJustified}
 use Rattle.sat_prop.specs.Levels.{level_of}
 use Rattle.sat_prop.specs.Changes.{Propagates, IsKeptUpTo, with_true_literal}
 use Rattle.sat_prop.specs.Kept.{IsTrailState}
-use Rattle.sat_prop.proofs.Fronts.{split_last, front_at, front_take, front_length, number_of}
-use Rattle.sat_prop.proofs.Justifying.{room_for, justified_once}
+use Rattle.sat_prop.proofs.Fronts.{split_last, front_at, front_take, number_of}
+use Rattle.sat_prop.proofs.Justifying.{justified_once}
 use Rattle.sat_learn.proofs.Closing.{false_stands}
 use Rattle.sat_solve.specs.Solving.{AssumedFirst, IsServing, IsUnder, IsAssumptionLeft, HasAssumedDecisions}
-use Rattle.sat_solve.proofs.Booking.{smaller_grown}
+use Rattle.des_base.proofs.BoolLemmas.{not_true}
 
 abbrev no_reason : Option ℕ
 no_reason = None
@@ -179,21 +179,8 @@ next_forced assumed vars t l s j n f i b v =
     go None h = absurd (h refl)
     go (Some id) h = refl
 
--- how the measure falls at a decision
-pub decided_smaller : (t u w : TrailState) (l : Lit) (vars left : ℕ) → IsJustified u.clauses u.attached u.literals u.reasons u.vars → is_open u.literals l ≡ true → l.var < u.vars → u.vars ≡ vars → take (length t.literals) u.literals ≡ t.literals
-    → w ≡ with_true_literal u l None → left * (vars + 1) + (vars - length w.literals) < left * (vars + 1) + (vars - length t.literals)
-decided_smaller t u w l vars left j o b e f g =
-    let r = room_for u.clauses u.attached u.literals u.reasons u.vars l j o b in
-    let n : length w.literals ≡ length u.literals + 1 = rw g (grind (arith, common_steps)) in
-    let k = front_length t.literals u.literals f in
-    smaller_grown left vars (length w.literals) (length t.literals) (omega arith) (omega arith)
-
 pub assumed_small : (vars : ℕ) (assumed : List Lit) (l : Lit) → HasValues vars assumed → is_true assumed l ≡ true → l.var < vars
 assumed_small vars assumed l a h = below_at vars assumed l a h
-
-not_true : (b : Bool) → not b ≡ true → b ≡ false
-not_true true e = cc
-not_true false e = refl
 
 -- where none of the assumptions is false by them, they are compatible
 pub compatible_from : (assumed : List Lit) → list_all (λ l. not (is_false assumed l)) assumed ≡ true → AreConsistent assumed

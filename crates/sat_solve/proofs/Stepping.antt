@@ -14,8 +14,7 @@ use Rattle.sat_prop.specs.Changes.{Propagates, with_true_literal}
 use Rattle.sat_prop.specs.Kept.{IsTrailState}
 use Rattle.sat_prop.proofs.Fronts.{front_length, front_at}
 use Rattle.sat_prop.proofs.Justifying.{room_for}
-use Rattle.sat_solve.specs.Solving.{AreUnderWay, IsLonger, to_do, AreTaken}
-use Rattle.sat_solve.proofs.Booking.{smaller_learnt, smaller_grown}
+use Rattle.sat_solve.specs.Solving.{AreUnderWay, IsLonger, AreTaken}
 use Rattle.sat_solve.proofs.Standing.{serving_grown, under_grown, serving_decided, under_decided}
 use Rattle.sat_solve.proofs.WaitingVariables.{waiting_grown, waiting_decided}
 
@@ -75,20 +74,6 @@ longer_decided t u l vars s o b h e =
     let n : length u.literals ≡ length t.literals + 1 = rw e (grind (arith, common_steps)) in
     let v : u.vars ≡ t.vars = ap (λ (x : TrailState). x.vars) e in
     record { longer = n; within = omega arith }
-
--- what there is to do falls
-pub less_decided : (t u w : TrailState) (left : ℕ) → Propagates t u → IsLonger u w → w.vars ≡ u.vars → to_do left w < to_do left t
-less_decided t u w left p l e =
-    let v : w.vars ≡ t.vars = e ∙ p.vars in
-    let k = front_length t.literals u.literals p.literals in
-    let a = l.longer in
-    let b = l.within in
-    rw v (smaller_grown left t.vars (length w.literals) (length t.literals) (omega arith) (omega arith))
-
-pub less_learnt : (t u w : TrailState) (left last : ℕ) → Propagates t u → w.vars ≡ u.vars → last + 1 ≡ left → to_do last w < to_do left t
-less_learnt t u w left last p e h =
-    let v : w.vars ≡ t.vars = e ∙ p.vars in
-    rw v (smaller_learnt left last t.vars (length w.literals) (length t.literals) h)
 
 -- what holds where a step goes on
 pub goes_on_with : {A E : Type 0} (r : Result (Option A) E) (P Q : Type 0) → IfOk r (λ o. IfNone o P) → (P → Q) → IfOk r (λ o. IfNone o Q)

@@ -1,11 +1,10 @@
 -- Variables that wait, as the trail grows and goes back.
-use Rattle.std.proofs.Common.{◌≡◌, ◌∙◌, ℕ, ◌+◌, ◌-◌, ◌<◌, ◌≤◌, Bool, true, false, ◌++◌, ◌∷◌, [], List, refl, ap, sym, length, take, get_or, arith, subst, ⊎_elim, cond, slice_set}
-use Rattle.std.specs.Prelude.{Option, Some, None, count_by, slice_get, max, replicate}
-use Rattle.std.specs.List.{list_all, AllByRecursion}
+use Rattle.std.proofs.Common.{◌≡◌, ◌∙◌, ℕ, ◌+◌, ◌-◌, ◌<◌, ◌≤◌, Bool, true, false, ◌++◌, ◌∷◌, [], List, refl, ap, sym, length, take, get_or, arith, subst, ⊎_elim, cond}
+use Rattle.std.specs.Prelude.{Option, Some, None, slice_get, max, replicate}
+use Rattle.std.specs.List.{list_all}
 use Rattle.std.specs.Bool.{beq}
 use Rattle.std.proofs.lemmas.Grind.{common_steps}
 use Rattle.std.proofs.lemmas.Bool.{cases_lt, cases_Bool, or_right}
-use Rattle.std.proofs.lemmas.List.Sums.{sum_by-set}
 use Rattle.std.proofs.lemmas.Option.{slice_get_within, get_or_from_slice_get}
 use Rattle.des_base.specs.declared.TheConstants.{VAR_LIMIT}
 use Rattle.prop_core.specs.declared.lit.Lit.{Lit}
@@ -13,7 +12,7 @@ use Rattle.std.proofs.Math.Nat.{le-max_left, le-max_right, max-le, max-eq_left, 
 use Rattle.prop_core.specs.Clauses.{Clause, is_true, is_open, HasValues, AreConsistent}
 use Rattle.prop_core.specs.Trail.{no_literal, has_var}
 use Rattle.prop_core.proofs.Entailed.{same_itself}
-use Rattle.prop_core.proofs.Literals.{literal_of, open_parts, open_from, open_var, open_shorter, place_found, true_at, true_more, has_at, below_at}
+use Rattle.prop_core.proofs.Literals.{literal_of, open_parts, open_from, open_var, open_shorter, place_found, true_at, true_more, has_at, below_at, wider}
 use Rattle.sat_order.specs.Waiting.{waits}
 use Rattle.sat_prop.specs.TrailState.{TrailState, literal_at, trail_value, StandsAt}
 use Rattle.sat_prop.specs.Levels.{level_of, level_at, IsUpToLevel}
@@ -23,8 +22,8 @@ use Rattle.sat_prop.proofs.Leveling.{level_front, level_step}
 use Rattle.sat_prop.proofs.Seeing.{value_agrees, value_denies, value_lacks}
 use Rattle.sat_learn.specs.Seen.{is_known_var}
 use Rattle.sat_solve.specs.Solving.{AreWaiting, IsServing, AreAtRest, WithRoom}
-use Rattle.sat_solve.proofs.Learning.{serving_attached, wider}
-use Rattle.sat_solve.proofs.Standing.{serving_kept}
+use Rattle.sat_solve.proofs.Learning.{serving_attached}
+use Rattle.des_base.proofs.Elements.{all_change}
 
 -- a literal by its place
 pub read_at : (literals : List Lit) (place : ℕ) (l : Lit) → slice_get literals place ≡ Some l → get_or literals place no_literal ≡ l
@@ -85,13 +84,6 @@ waiting_kept waiting t u vars level w same back k var b o =
 
 abbrev one_if : Bool → ℕ
 one_if b = cond b 1 0
-
--- one waiting variable fewer
-pub fewer_wait : (waiting : List Bool) (var : ℕ) → var < length waiting → waits waiting var ≡ true → count_by (λ b. b) (slice_set waiting var false) < count_by (λ b. b) waiting
-fewer_wait waiting var h on =
-    let s = sum_by-set (λ b. cond b 1 0) waiting var false false h in
-    let z : one_if (get_or waiting var false) ≡ 1 = ap one_if on in
-    omega arith
 
 -- an open variable waits where the trail has grown
 pub waiting_grown : (waiting : List Bool) (t u : TrailState) (vars : ℕ) → AreWaiting waiting t.literals vars → Propagates t u → AreWaiting waiting u.literals vars
@@ -225,10 +217,6 @@ grown_is a b = ⊎_elim
     (λ h. let e : max a b ≡ a = max-eq_left h in rw e (omega arith))
     (cases_lt a b)
 
-all_wider : (vars more : ℕ) (cs : List Clause) → vars ≤ more → AllByRecursion (HasValues vars) cs → AllByRecursion (HasValues more) cs
-all_wider vars more [] h a = tt
-all_wider vars more (c ∷ cs) h a = (wider vars more c h a.0, all_wider vars more cs h a.1)
-
 still_waits : (waiting : List Bool) (count var : ℕ) → var < length waiting → waits waiting var ≡ true → waits (waiting ++ replicate count true) var ≡ true
 still_waits waiting count var h e = let g : get_or (waiting ++ replicate count true) var false ≡ get_or waiting var false = grind (arith, common_steps) in g ∙ e
 
@@ -245,7 +233,7 @@ rest_more waiting t u values kept vars spare more room r w limit b s v =
       level = ap level_of w.reasons ∙ r.level;
       serving = record {
         joined = rw (w.clauses, w.attached) r.serving.joined;
-        below = rw w.clauses (all_wider vars (max vars more) t.clauses (le-max_left vars more) r.serving.below);
+        below = rw w.clauses (all_change (HasValues vars) (HasValues (max vars more)) t.clauses (λ clause. wider vars (max vars more) clause (le-max_left vars more)) r.serving.below);
         literals_below = rw w.literals (wider vars (max vars more) t.literals (le-max_left vars more) r.serving.literals_below);
         enough = max-le (let x = r.serving.enough in let y = w.vars in omega arith) b;
         room = max-le (let x = r.serving.room in let y = w.spare in omega arith) s;
@@ -258,9 +246,6 @@ rest_more waiting t u values kept vars spare more room r w limit b s v =
           (cases_lt var (length waiting));
       values_kept = v;
     }
-
-pub rest_back : (before waiting : List Bool) (t u : TrailState) (values : List Bool) (vars spare : ℕ) → IsServing vars spare t → IsKeptUpTo t u 0 → AreWaiting waiting u.literals (length before) → length before ≡ vars → length waiting ≡ length before → vars ≤ VAR_LIMIT → vars ≤ length values → AreAtRest waiting u values vars spare
-rest_back before waiting t u values vars spare s k w e f l v = rest_from waiting t u values vars spare k (serving_kept vars spare 0 t u s k) (subst (λ (n : ℕ). AreWaiting waiting u.literals n) e w) (f ∙ e) l v
 
 pub vars_given : (t u : TrailState) (n : ℕ) → u ≡ record t { vars = max t.vars n } → n ≤ u.vars
 vars_given t u n e = let s : u.vars ≡ max t.vars n = ap (λ (x : TrailState). x.vars) e in rw s (le-max_right t.vars n)

@@ -1,40 +1,24 @@
 -- Where something is left open, the clauses that were learnt for it are fresh, and so fewer than the sets of literals over the book's variables.
-use Rattle.std.proofs.Common.{◌≡◌, ◌∙◌, ◌<◌, ◌^◌, ◌||◌, inl, inr, ℕ, Bool, true, false, List, [], ◌∷◌, ◌++◌, length, refl, sym, ap, subst, append-nil, append_assoc}
-use Rattle.std.proofs.lemmas.List.Elements.{filter_map-append}
-use Rattle.std.proofs.lemmas.List.Folds.{list_any-append}
+use Rattle.std.proofs.Common.{◌≡◌, ◌∙◌, ◌<◌, ◌^◌, inl, inr, ℕ, Bool, true, false, List, [], ◌∷◌, ◌++◌, length, refl, sym, ap, subst, append-nil, append_assoc}
 use Rattle.std.specs.List.{list_any}
-use Rattle.des_net.specs.Network.{Net}
 use Rattle.fault_verdicts.specs.Judges.{AreJudged, IsEventJudged, Matter}
 use Rattle.fault_verdicts.specs.declared.answer.Verdict.{Verdict}
 use Rattle.fault_verdicts.specs.declared.answer.Verdict.TheVariants.{Certain, Excluded, Possible, Open}
-use Rattle.least_faults.proofs.FreshCount.{fresh_below}
-use Rattle.least_faults.specs.declared.answer.Best.{Best}
-use Rattle.least_faults.specs.declared.answer.Found.{Found}
+use Rattle.least_faults.proofs.FreshCount.{fresh_below, over_front}
 use Rattle.least_faults.specs.declared.answer.Found.TheVariants.{Explained, Absent, Many, Undecided}
-use Rattle.log_order.specs.Log.{Log}
-use Rattle.proof_ledger.specs.Book.{BookEntry, axiom_of, axioms_of, mark}
+use Rattle.proof_ledger.specs.Book.{BookEntry, mark}
 use Rattle.proof_ledger.specs.Fresh.{AreFresh}
-use Rattle.prop_core.specs.Trail.{has_var}
 use Rattle.verdict_telling.proofs.Growing.{judged_grows}
-use Rattle.verdict_telling.specs.Deciding.{IncludeVariablesOf, IsSmallFor, OpenIsSmall, leaves_open}
+use Rattle.verdict_telling.specs.Deciding.{IncludeVariablesOf, OpenIsSmall}
 use Rattle.verdict_telling.specs.Replied.{is_undecided}
-use Rattle.verdict_telling.specs.Whole.{FollowsFound, HaveReplies, matter_behind, told_of, events_behind}
+use Rattle.verdict_telling.specs.Whole.{matter_behind}
 
 -- ---- fronts of the book
-
-or_left : (a b : Bool) → a ≡ true → a || b ≡ true
-or_left true b h = refl
-or_left false b h = cc
-
-among_front : (vars : List ℕ) (front back : List BookEntry) → IncludeVariablesOf vars (front ++ back) → IncludeVariablesOf vars front
-among_front vars front back among var there =
-    among var (ap (list_any (has_var var)) (filter_map-append axiom_of front back) ∙ list_any-append (has_var var) (axioms_of front) (axioms_of back)
-    ∙ or_left (list_any (has_var var) (axioms_of front)) (list_any (has_var var) (axioms_of back)) there)
 
 -- what was learnt between two marks is fewer
 between_marks : (vars : List ℕ) (old since new : List BookEntry) (count : ℕ) → new ≡ old ++ mark 0 ∷ since ++ mark 1 ∷ [] → IncludeVariablesOf vars new → AreFresh (old ++ mark 0 ∷ []) since count → count < 3 ^ length vars
 between_marks vars old since new count whole among fresh =
-    fresh_below vars (old ++ mark 0 ∷ []) since count (subst (IncludeVariablesOf vars) (sym (append_assoc old (mark 0 ∷ []) since)) (among_front vars (old ++ (mark 0 ∷ since)) (mark 1 ∷ []) (subst (IncludeVariablesOf vars) whole among))) fresh
+    fresh_below vars (old ++ mark 0 ∷ []) since count (subst (IncludeVariablesOf vars) (sym (append_assoc old (mark 0 ∷ []) since)) (over_front vars (old ++ (mark 0 ∷ since)) (mark 1 ∷ []) (subst (IncludeVariablesOf vars) whole among))) fresh
 
 -- ---- the events
 
@@ -62,7 +46,7 @@ some_open m vars (e ∷ events) old new (verdict ∷ verdicts) among (mid, here,
     by : (b : Bool) → is_undecided verdict ≡ b → (list_any is_undecided verdicts ≡ true → m.budget < 3 ^ length vars) → m.budget < 3 ^ length vars
     by true e_is next =
         let others = goes_on m events mid new verdicts later in
-        one_open m vars e old mid verdict (among_front vars mid others.0 (subst (IncludeVariablesOf vars) others.1 among)) here e_is
+        one_open m vars e old mid verdict (over_front vars mid others.0 (subst (IncludeVariablesOf vars) others.1 among)) here e_is
     by false e_is next = next (rw e_is at is)
 some_open m vars [] old new (verdict ∷ verdicts) among judged is = absurd judged
 some_open m vars (e ∷ events) old new [] among judged is = absurd judged

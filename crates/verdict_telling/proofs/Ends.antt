@@ -3,7 +3,7 @@ use Rattle.std.proofs.Common.{◌≡◌, ◌∙◌, inl, inr, ℕ, ◌<◌, ◌|
 use Rattle.std.proofs.lemmas.List.Elements.{Contains-append_left as append_left}
 use Rattle.std.specs.List.{list_any}
 use Rattle.std.specs.Option.{option_to_list}
-use Rattle.des_base.proofs.Elements.{here_first, here_later}
+use Rattle.des_base.proofs.Elements.{here_first, here_later, filter_from}
 use Rattle.des_base.specs.Lists.{numbers_below}
 use Rattle.des_base.specs.Outside.{Took}
 use Rattle.des_net.specs.Network.{Net, is_fault}
@@ -11,7 +11,6 @@ use Rattle.fault_verdicts.specs.Judges.{Matter}
 use Rattle.fault_verdicts.specs.declared.answer.Verdict.{Verdict}
 use Rattle.least_faults.proofs.Freshness.{fresh_none}
 use Rattle.least_faults.specs.Growing.{HasGrownWithin}
-use Rattle.log_clauses.proofs.Lists.{filter_from}
 use Rattle.proof_ledger.specs.Book.{BookEntry}
 use Rattle.report.specs.VerdictTexts.{text_of_verdict}
 use Rattle.run_clauses.proofs.Lists.{from_numbers}

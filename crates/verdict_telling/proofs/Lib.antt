@@ -1,6 +1,6 @@
 mod Ends
 mod Both
-mod Runs
+pub mod Runs
 mod Failures
 mod Growing
 mod Leaving

@@ -21,7 +21,7 @@ use Rattle.run_decode.specs.QuestionAxioms.{BuiltQuestion}
 
 -- ---- what was found
 
-known : (names : List (ℕ × Meaning)) (first : BuiltQuestion) (since : List BookEntry) (net : Net) (log : Log) (n budget : ℕ) (found : Found) → IsFound names first since net log n budget found → EventsKnown net found
+pub known : (names : List (ℕ × Meaning)) (first : BuiltQuestion) (since : List BookEntry) (net : Net) (log : Log) (n budget : ℕ) (found : Found) → IsFound names first since net log n budget found → EventsKnown net found
 known names first since net log n budget (Explained best) h = run_known net (word_of best.run) h.given.explains.run
 known names first since net log n budget Absent h = tt
 known names first since net log n budget (Many best) h = run_known net (word_of best.run) h.given.explains.run

@@ -1,5 +1,5 @@
 use Rattle.std.proofs.Common.{ℕ, [], Err, refl, subst, sym}
-use Rattle.alarm_session.proofs.Joining.{becomes_with, kept_roomy, kept_with, on_err, own_draft, own_fits, stage_roomy}
+use Rattle.alarm_session.proofs.Joining.{becomes_with, kept_roomy, kept_with, own_draft, own_fits, stage_roomy}
 use Rattle.alarm_session.proofs.Keeping.{alarm_codes}
 use Rattle.alarm_session.proofs.Refusing.{refused_by_log}
 use Rattle.alarm_session.proofs.adding.put_alarm.Goals as goal
@@ -9,6 +9,7 @@ use Rattle.alarm_session.specs.declared.refusal.SessionRefusal.{SessionRefusal}
 use Rattle.alarm_session.specs.declared.refusal.SessionRefusal.TheVariants.{Memory}
 use Rattle.des_base.specs.Refusing.{SucceedsUnless}
 use Rattle.log_order.specs.Adding.{with_alarm, with_texts}
+use Rattle.des_base.proofs.Results.{on_err}
 
 pub reserve_draft-requires-clause-drafted : goal.reserve_draft-requires-clause-drafted
 reserve_draft-requires-clause-drafted g c = own_draft c.args.setting.net.now c.args.setting.steps c.args.kept.now _ _ c.in_ok-drafted.drafted c.in_ok-drafted.ensures.drafted

@@ -1,6 +1,6 @@
 use Rattle.std.proofs.Common.{◌≤◌, ◌∙◌, List, ap, subst, sym}
 use Rattle.des_base.specs.declared.TheConstants.{MOST_STEPS}
-use Rattle.least_faults.proofs.Closing.{grown_closed, grown_not, marked_axioms, marked_ready}
+use Rattle.least_faults.proofs.Closing.{grown_closed, grown_not, marked_ready}
 use Rattle.least_faults.specs.Growing.{HasGrownWithin}
 use Rattle.proof_ledger.specs.Book.{axioms_of}
 use Rattle.proof_ledger.specs.Kept.{LedgerState}
@@ -11,6 +11,7 @@ use Rattle.cost_least.proofs.Weighed.{belongs_still, keeps_same, keeps_both}
 use Rattle.cost_least.specs.Searching.{asked_of}
 use Rattle.cost_least.specs.Weighed.{AreWeighedParts}
 use Rattle.cost_least.proofs.searching.cheapest.Goals as goal
+use Rattle.proof_ledger.proofs.AxiomLists.{marked_axioms}
 
 pub weigh-requires-clause-ready : goal.weigh-requires-clause-ready
 weigh-requires-clause-ready g c = marked_ready _ _ c.args.parts.now 0 c.args.book.now.entries c.put_mark.new.self.entries (ap (λ (b : LedgerState). b.entries) c.in_ok-put_mark.ensures.added) c.requires.ready

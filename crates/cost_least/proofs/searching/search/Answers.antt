@@ -1,8 +1,8 @@
 use Rattle.std.proofs.Common.{◌≤◌, ℕ, None, subst, sym}
+use Rattle.std.proofs.lemmas.Result.{IfOk-weaker as ok_weaker}
 use Rattle.des_base.specs.declared.TheConstants.{MOST_STEPS}
 use Rattle.event_costs.specs.StoredCosts.{GivesCosts}
 use Rattle.least_faults.proofs.Climbing.{searching_further}
-use Rattle.least_faults.proofs.Closing.{ok_weaker}
 use Rattle.least_faults.proofs.Putting.{learnt_no_final}
 use Rattle.proof_ledger.specs.Book.{axioms_of}
 use Rattle.step_encode.specs.Coded.{CodedSteps}

@@ -1,8 +1,8 @@
 -- The events of the run are known, and its text reads back.
 use Rattle.std.proofs.Common.{◌≡◌, ℕ, List}
+use Rattle.std.proofs.lemmas.Result.{IfOk-weaker as ok_weaker}
 use Rattle.cost_least.specs.Answers.{CostAsked}
 use Rattle.event_costs.specs.Prices.{cost_at}
-use Rattle.least_faults.proofs.Closing.{ok_weaker}
 use Rattle.endings.specs.declared.ending.Kind.{Kind}
 use Rattle.diagnose_cli.specs.CheapReplies.{SaysCheap, reply_of_cheap}
 use Rattle.diagnose_cli.proofs.CheapAnswers.{cheap_known, cheap_reads_back}

@@ -1,6 +1,6 @@
 -- The events of the runs are known, and their texts read back.
 use Rattle.std.proofs.Common.{◌≡◌, ℕ, List}
-use Rattle.least_faults.proofs.Closing.{ok_weaker}
+use Rattle.std.proofs.lemmas.Result.{IfOk-weaker as ok_weaker}
 use Rattle.endings.specs.declared.ending.Kind.{Kind}
 use Rattle.diagnose_cli.specs.TwinReplies.{SaysTwin, reply_of_twin}
 use Rattle.diagnose_cli.proofs.TwinAnswers.{twin_known, twin_reads_back}

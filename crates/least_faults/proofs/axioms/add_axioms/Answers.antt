@@ -1,6 +1,6 @@
 use Rattle.std.proofs.Common.{◌<◌, length, arith}
-use Rattle.least_faults.proofs.AxiomLists.{axioms_next}
 use Rattle.least_faults.proofs.axioms.add_axioms.Goals as goal
+use Rattle.proof_ledger.proofs.AxiomLists.{axioms_next}
 
 pub loop-before-preserved : goal.loop-before-preserved
 loop-before-preserved c =

@@ -1,6 +1,6 @@
 use Rattle.std.proofs.Common.{◌<◌, length, arith}
-use Rattle.least_faults.proofs.AxiomLists.{axioms_next, literals_next, literals_within}
 use Rattle.least_faults.proofs.axioms.push_axioms.Goals as goal
+use Rattle.proof_ledger.proofs.AxiomLists.{axioms_next, literals_next, literals_within}
 
 pub push_axiom-requires-clause-enough : goal.push_axiom-requires-clause-enough
 push_axiom-requires-clause-enough c =

@@ -1,6 +1,6 @@
 -- The text is that of the question's formula, and reads back.
 use Rattle.std.proofs.Common.{◌≡◌, ℕ, List}
-use Rattle.least_faults.proofs.Closing.{ok_weaker}
+use Rattle.std.proofs.lemmas.Result.{IfOk-weaker as ok_weaker}
 use Rattle.proof_text.proofs.CnfPrinted.{printed_formula}
 use Rattle.proof_text.specs.CnfText.{formula}
 use Rattle.diagnose_cli.specs.declared.command.Question.TheVariants.{PrintCnf}

@@ -1,12 +1,12 @@
 -- The events of what is found are known, and its run replays.
 use Rattle.std.proofs.Common.{◌≡◌, ℕ, List}
-use Rattle.least_faults.proofs.Closing.{ok_weaker}
+use Rattle.std.proofs.lemmas.Result.{IfOk-weaker as ok_weaker}
 use Rattle.diagnose_cli.specs.declared.command.Question.TheVariants.{Diagnose}
 use Rattle.endings.specs.declared.ending.Kind.{Kind}
 use Rattle.diagnose_cli.specs.Replies.{AnswersTo, reply_of_found}
 use Rattle.diagnose_cli.proofs.Diagnosing.{answers_found, answers_question}
-use Rattle.diagnose_cli.proofs.KnownRuns.{found_known}
 use Rattle.diagnose_cli.proofs.diagnose_command.LeastFaultsReplying.reply.Goals as goal
+use Rattle.verdict_telling.proofs.Runs.{found_known}
 
 pub reply_of_found-requires : goal.reply_of_found-requires
 reply_of_found-requires c = found_known c.args.case.now.net c.args.case.now.log c.args.steps c.args.self.now.budget c.args._book.now.entries c.args.answer c.requires.says

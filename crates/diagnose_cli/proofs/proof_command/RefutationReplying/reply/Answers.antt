@@ -1,10 +1,10 @@
 -- What was found holds, and the reply tells what refutes the bound below it.
 use Rattle.std.proofs.Common.{◌≡◌, ℕ, List, subst, sym}
+use Rattle.std.proofs.lemmas.Result.{IfOk-weaker as ok_weaker}
 use Rattle.std.specs.Prelude.{codes}
 use Rattle.inquiries.proofs.Refutations.{ok_both}
 use Rattle.inquiries.specs.Refuted.{IsRefutedFor}
 use Rattle.inquiries.specs.declared.refutation.Refuted.{Refuted}
-use Rattle.least_faults.proofs.Closing.{ok_weaker}
 use Rattle.least_faults.specs.declared.answer.Found.{Found}
 use Rattle.proof_text.specs.PrintedText.{ReadsBackAsProof, steps_text}
 use Rattle.report.specs.Replies.{EventsKnown}
@@ -13,9 +13,9 @@ use Rattle.endings.specs.declared.ending.Kind.{Kind}
 use Rattle.endings.specs.declared.ending.Kind.TheVariants.{Nothing}
 use Rattle.diagnose_cli.specs.Replies.{AnswersTo, reply_of_found, reply_of_proof}
 use Rattle.diagnose_cli.proofs.Diagnosing.{answers_question}
-use Rattle.diagnose_cli.proofs.KnownRuns.{found_known}
 use Rattle.diagnose_cli.proofs.ProofAnswers.{answers_proof, fine_steps, same_found, told_nothing, told_proof, told_undecided}
 use Rattle.diagnose_cli.proofs.proof_command.RefutationReplying.reply.Goals as goal
+use Rattle.verdict_telling.proofs.Runs.{found_known}
 
 pub reply_of_proof-requires-clause-ascend : goal.reply_of_proof-requires-clause-ascend
 reply_of_proof-requires-clause-ascend c =

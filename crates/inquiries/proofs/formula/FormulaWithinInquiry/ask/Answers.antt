@@ -1,6 +1,6 @@
 -- The axioms of the book and what is assumed are those of the question.
 use Rattle.std.proofs.Common.{◌≡◌, List, ◌++◌, refl, subst}
-use Rattle.least_faults.proofs.Closing.{ok_weaker}
+use Rattle.std.proofs.lemmas.Result.{IfOk-weaker as ok_weaker}
 use Rattle.proof_ledger.specs.Book.{clauses_of}
 use Rattle.proof_text.specs.CnfText.{formula}
 use Rattle.proof_text.specs.Refutation.{unit_clauses}

@@ -1,10 +1,10 @@
 -- What is found, and the question that is left.
-use Rattle.least_faults.proofs.Closing.{ok_weaker}
 use Rattle.least_faults.specs.Answers.{IsAnswered}
 use Rattle.least_faults.specs.Parts.{built_of, meanings_of_parts}
 use Rattle.inquiries.specs.Diagnosed.{IsDiagnosed}
 use Rattle.inquiries.proofs.Diagnosing.{diagnosed_begun, search_left}
 use Rattle.inquiries.proofs.least.LeastFaultsInquiry.ask.Goals as goal
+use Rattle.std.proofs.lemmas.Result.{IfOk-weaker as ok_weaker}
 
 pub returns-clause-says : goal.returns-clause-says
 returns-clause-says g c =

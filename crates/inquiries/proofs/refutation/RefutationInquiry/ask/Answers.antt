@@ -1,6 +1,6 @@
 -- What is found holds, and the book that is left has evidence for it.
 use Rattle.std.proofs.Common.{ℕ, sym, subst}
-use Rattle.least_faults.proofs.Closing.{ok_weaker}
+use Rattle.std.proofs.lemmas.Result.{IfOk-weaker as ok_weaker}
 use Rattle.least_faults.proofs.Staying.{belong_still}
 use Rattle.least_faults.specs.Parts.{IsBuilt, built_of}
 use Rattle.inquiries.specs.Refuted.{IsRefutedFor, IsRefuting}

@@ -4,10 +4,11 @@ use Rattle.sat_prop.specs.TrailState.{TrailState}
 use Rattle.sat_solve.specs.Solving.{IsClosed}
 use Rattle.sat_solve.proofs.WaitingVariables.{room_max, room_given}
 use Rattle.sat_solve.proofs.Clashing.{closed_put, assumed_same, one_of}
-use Rattle.sat_solve.proofs.Keeping.{on_err, over_roomier, over_put, searched_put, ended_put}
+use Rattle.sat_solve.proofs.Keeping.{over_roomier, over_put, searched_put, ended_put}
 use Rattle.sat_solve.proofs.Standing.{next_assumed, next_forced}
 use Rattle.sat_solve.proofs.search.Search.dismiss.Given as given
 use Rattle.sat_solve.proofs.search.Search.dismiss.Goals as goal
+use Rattle.des_base.proofs.Results.{on_err}
 
 pub analyse_failed-requires-clause-forced : goal.analyse_failed-requires-clause-forced
 analyse_failed-requires-clause-forced g c =

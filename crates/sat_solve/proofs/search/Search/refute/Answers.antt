@@ -4,9 +4,10 @@ use Rattle.sat_prop.specs.TrailState.{TrailState}
 use Rattle.sat_solve.specs.Solving.{IsClosed}
 use Rattle.sat_solve.proofs.WaitingVariables.{room_max, room_given}
 use Rattle.sat_solve.proofs.Clashing.{closed_put, assumed_same, none_among}
-use Rattle.sat_solve.proofs.Keeping.{on_err, over_roomier, over_put, searched_put, ended_put}
+use Rattle.sat_solve.proofs.Keeping.{over_roomier, over_put, searched_put, ended_put}
 use Rattle.sat_solve.proofs.search.Search.refute.Given as given
 use Rattle.sat_solve.proofs.search.Search.refute.Goals as goal
+use Rattle.des_base.proofs.Results.{on_err}
 
 pub returns-in_err-learnt-clause-err : goal.returns-in_err-learnt-clause-err
 returns-in_err-learnt-clause-err g c =
