@@ -3,7 +3,6 @@ use Rattle.std.proofs.Common.{◌≡◌, ◌∙◌, ℕ, ◌<◌, ◌≤◌, Boo
 use Rattle.std.specs.Prelude.{nat_lt}
 use Rattle.std.proofs.lemmas.Bool.Decides.{nat_tests}
 use Rattle.alarm_session.specs.Refusals.{refusal_of, large_refusal, refusal_with}
-use Rattle.alarm_session.specs.declared.refusal.SessionRefusal.{SessionRefusal}
 use Rattle.alarm_session.specs.declared.refusal.SessionRefusal.TheVariants.{Memory, TooLarge}
 use Rattle.des_base.specs.Refusing.{SucceedsUnless}
 use Rattle.least_faults.specs.declared.TheConstants.{MOST_SIZE}

@@ -1,5 +1,5 @@
 -- What a session refuses: what its log refuses, and else a question that would be too large.
-use Rattle.std.specs.Prelude.{◌≡◌, ⊤, ℕ, Bool, false, not, List, length, Option, Some, None, Result, Ok, Err, nat_lt, if◌then◌else◌, option_map, option_and_then}
+use Rattle.std.specs.Prelude.{ℕ, Bool, false, not, List, length, Option, Some, None, nat_lt, if◌then◌else◌, option_map, option_and_then}
 use Rattle.alarm_session.specs.declared.refusal.SessionRefusal.{SessionRefusal}
 use Rattle.alarm_session.specs.declared.refusal.SessionRefusal.TheVariants.{Double, Unknown, Cycle, NoLabels, Limit, TooLarge, Memory}
 use Rattle.des_base.specs.Names.{place_of}

@@ -1,10 +1,10 @@
 -- What each call on a log refuses, what it adds, and what stays true of the log.
-use Rattle.std.specs.Prelude.{◌≡◌, ⊤, ℕ, Bool, ◌≤◌, nat_le, nat_lt, ◌&&◌, ◌||◌, not, List, [], ◌∷◌, ◌++◌, map, length, Option, Some, None, is_some, if◌then◌else◌, Result, Ok, Err, bytes_eq}
+use Rattle.std.specs.Prelude.{ℕ, Bool, ◌≤◌, nat_le, nat_lt, ◌&&◌, ◌||◌, not, List, [], ◌∷◌, ◌++◌, map, length, Option, Some, None, is_some, if◌then◌else◌, bytes_eq}
 use Rattle.std.specs.List.{list_any, AllByRecursion}
 use Rattle.des_base.specs.Names.{place_of, AreNames}
 use Rattle.log_order.specs.declared.TheConstants.{MOST_ALARMS, MOST_LABELS, MOST_PAIRS}
 use Rattle.log_order.specs.declared.refusal.LogRefusal.{LogRefusal}
-use Rattle.log_order.specs.declared.refusal.LogRefusal.TheVariants.{Double, Unknown, Cycle, NoLabels, Limit, Memory}
+use Rattle.log_order.specs.declared.refusal.LogRefusal.TheVariants.{Double, Unknown, Cycle, NoLabels, Limit}
 use Rattle.log_order.specs.Log.{Log, Alarm, IsValidLog, has_pair, closes_cycle, an_alarm}
 
 -- the ids of alarms, in order

@@ -170,7 +170,12 @@ impl Front<'_> {
     }
 
     // The numbers of the assumptions' clauses, and then that of the last clause.
-    fn last_hints(&self, axioms: u64, clauses: u64, last: ClauseId) -> Result<ListOf<ClauseId>, Memory>
+    fn last_hints(
+        &self,
+        axioms: u64,
+        clauses: u64,
+        last: ClauseId,
+    ) -> Result<ListOf<ClauseId>, Memory>
         requires units { axioms ≤ clauses }
         requires room { clauses < 2 ^ 64 - 1 }
         ensures { IfOk result (λ hints. hints ≡ range_with_len (axioms + 1) (clauses - axioms) ++ last ∷ []) }
@@ -196,7 +201,11 @@ fn new_number(numbers: &[ClauseId], id: ClauseId) -> ClauseId
 }
 
 // The new numbers of the clauses.
-fn renumbered(alloc: Global, hints: &[ClauseId], numbers: &[ClauseId]) -> Result<ListOf<ClauseId>, Memory>
+fn renumbered(
+    alloc: Global,
+    hints: &[ClauseId],
+    numbers: &[ClauseId],
+) -> Result<ListOf<ClauseId>, Memory>
     ensures { IfOk result (λ list. list ≡ map (new_number numbers.now) hints.now) }
 {
     let mut list = ListOf::new(alloc);

@@ -13,7 +13,7 @@ use Rattle.sat_prop.specs.TrailState.{TrailState}
 use Rattle.sat_prop.specs.Levels.{level_of}
 use Rattle.sat_prop.specs.Changes.{IsFront, with_attached_clause}
 use Rattle.sat_prop.proofs.Fronts.{split_last, contains_more}
-use Rattle.sat_solve.specs.Solving.{SolverState, AllJoined, AreAtRest, HasAttached}
+use Rattle.sat_solve.specs.Solving.{SolverState, AreAtRest, HasAttached}
 use Rattle.sat_solve.proofs.Learning.{contains_last}
 use Rattle.sat_solve.proofs.Standing.{each_below}
 use Rattle.prop_core.proofs.Literals.{wider}

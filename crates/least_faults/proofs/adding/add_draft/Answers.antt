@@ -1,4 +1,4 @@
-use Rattle.std.proofs.Common.{◌≡◌, ◌∙◌, ◌+◌, ◌*◌, ◌++◌, List, map, length, ap, arith, subst, sym}
+use Rattle.std.proofs.Common.{◌∙◌, ◌+◌, ◌*◌, ◌++◌, List, map, length, ap, arith, subst, sym}
 use Rattle.card_counter.proofs.States.{made_later}
 use Rattle.least_faults.proofs.Drafts.{axioms_few, built_added, clauses_built, draft_added, few_added, inputs_may_count, variables_fit}
 use Rattle.least_faults.proofs.Freshness.{known_after}
