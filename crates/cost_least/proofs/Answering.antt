@@ -1,29 +1,31 @@
 -- What a question of costs leaves in the book, and what its answer means.
-use Rattle.std.proofs.Common.{◌≡◌, ◌∙◌, ℕ, ◌+◌, ◌-◌, ◌<◌, ◌≤◌, Bool, List, [], ◌∷◌, ◌++◌, length, Option, None, Some, IfSome, refl, sym, ap, subst, arith, Contains, count_by, IsTrue, append_assoc}
+use Rattle.std.proofs.Common.{◌≡◌, ◌∙◌, ℕ, ◌+◌, ◌-◌, ◌<◌, ◌≤◌, Bool, List, [], ◌∷◌, ◌++◌, length, Option, None, Some, IfSome, IfOk, Result, Ok, Err, refl, sym, ap, subst, arith, Contains, IsTrue, append_assoc}
 use Rattle.std.proofs.lemmas.List.{append_cancel_left}
 use Rattle.std.proofs.lemmas.List.Elements.{All-append, All-nil, All-cons, Contains-append_right}
 use Rattle.card_counter.specs.CounterState.{CounterState, negative}
 use Rattle.des_base.proofs.Elements.{all_split, here_first}
 use Rattle.des_net.specs.Network.{Net, IsNetwork}
-use Rattle.least_faults.proofs.Asked.{true_run}
+use Rattle.least_faults.proofs.Asked.{axioms_true, true_run}
 use Rattle.least_faults.proofs.Assuming.{compatible, negates_only, without_bound}
 use Rattle.least_faults.proofs.Below.{names_below, read_below}
 use Rattle.least_faults.proofs.Entailing.{final_entailed}
-use Rattle.least_faults.proofs.Putting.{derived_unmarked, same_axioms, same_last}
-use Rattle.least_faults.specs.Answers.{HaveLearntFresh}
+use Rattle.least_faults.proofs.Putting.{same_last}
+use Rattle.least_faults.proofs.Solved.{CanSearch}
+use Rattle.least_faults.specs.Asking.{IsSearching}
+use Rattle.least_faults.specs.Parts.{BelongTo}
+use Rattle.least_faults.specs.declared.parts.Parts.{Parts}
 use Rattle.log_clauses.specs.LogClauses.{guard_literals}
 use Rattle.log_encode.specs.CodedLog.{CodedLog, read_meanings, without_names}
 use Rattle.log_order.specs.Log.{Log, IsValidLog}
-use Rattle.proof_ledger.specs.Book.{BookEntry, final, axioms_of, is_mark, IsValidBook}
-use Rattle.proof_ledger.specs.Fresh.{is_learnt}
-use Rattle.prop_core.specs.Clauses.{Clause, HasValues, AreConsistent, AllClausesTrue, AllLiteralsTrue, clause_true, literal_true, NegatesOnly}
+use Rattle.proof_ledger.specs.Book.{BookEntry, final, axioms_of, IsValidBook}
+use Rattle.prop_core.specs.Clauses.{Clause, HasValues, AllClausesTrue, AllLiteralsTrue, clause_true, literal_true, value_in, NegatesOnly}
 use Rattle.prop_core.specs.VariableNames.{ReadsAs}
 use Rattle.prop_core.specs.declared.lit.Lit.{Lit}
-use Rattle.run_decode.specs.Decided.{Entails}
 use Rattle.run_decode.specs.Decoding.{IsTrueRun}
 use Rattle.run_decode.specs.Faithful.{IsWithin}
 use Rattle.run_decode.specs.WholeNaming.{whole_meanings}
-use Rattle.sat_solve.specs.Searching.{AreLearnt, HasAxiomVars, IsSearched, HasPut, IsRefuted, IsSpent}
+use Rattle.sat_solve.specs.Searching.{HasAxiomVars, IsAnswer, IsClosedByFinal, IsSearched, HasPut, IsPutFor, IsRefuted}
+use Rattle.sat_solve.specs.declared.answer.Answer.{Answer}
 use Rattle.sat_solve.specs.declared.answer.Answer.TheVariants as solver
 use Rattle.step_encode.specs.Coded.{CodedSteps}
 use Rattle.weight_counter.proofs.Written.{scales_are_exact}
@@ -33,12 +35,14 @@ use Rattle.weight_counter.specs.declared.scale.Scale.{Scale}
 use Rattle.weight_counter.specs.declared.weighted.Weighted.{Weighted}
 use Rattle.cost_least.proofs.Asked.{told_at, costs_are_ruled_out, within_limit}
 use Rattle.cost_least.proofs.Asks.{asks_costs}
-use Rattle.cost_least.specs.Answers.{CostAsked, PoseCostQuestion, IsPriced}
-use Rattle.cost_least.specs.Asking.{HasAskedCost}
+use Rattle.cost_least.proofs.Weighed.{searching_of}
+use Rattle.cost_least.specs.Answers.{PoseCostQuestion, IsPriced}
+use Rattle.cost_least.specs.Asking.{HasAskedCost, IsTrueCostAnswer}
 use Rattle.cost_least.specs.Pricing.{PosesCosts, cost_limit}
-use Rattle.cost_least.specs.Searching.{MayBound}
-use Rattle.cost_least.specs.Weighed.{AreWeighedParts, log_guards, assumed_at}
+use Rattle.cost_least.specs.Searching.{IsSolvedUnder, IsTotalOf, MayBound, asked_of}
+use Rattle.cost_least.specs.Weighed.{AreWeighed, AreWeighedParts, log_guards, assumed_at}
 use Rattle.cost_least.specs.declared.answer.Priced.{Priced}
+use Rattle.cost_least.specs.declared.asking.Asked.{Asked}
 use Rattle.cost_least.specs.declared.asking.Asked.TheVariants.{Explained, Refuted, Spent}
 use Rattle.prop_core.proofs.Literals.{wider}
 
@@ -51,9 +55,6 @@ module _ (cost : ℕ → ℕ) (steps : CodedSteps) (code : CodedLog) (counter : 
   told bound may =
       subst (λ (m : Net). PosesCosts m cost log steps.steps bound axioms (assumed_at code scale bound)) of_net
       (told_at cost steps code counter vars axioms scale log parts (subst IsNetwork (sym of_net) network) valid same read bound may)
-
-  pub assumed_compatible : (bound : Option ℕ) → IfSome bound (MayBound scale) → AreConsistent (assumed_at code scale bound)
-  assumed_compatible bound may = compatible (assumed_at code scale bound) (told bound may).tells.consistent
 
   first_within : scale.first ≤ vars
   first_within = let all = parts.vars_are in omega (arith, all)
@@ -105,72 +106,76 @@ module _ (cost : ℕ → ℕ) (steps : CodedSteps) (code : CodedLog) (counter : 
       some_input v [] more' = more'
       some_input v (x ∷ xs) more' = omega arith
 
+-- so the solver can be asked under what is assumed
+pub can_search : {R : Type 0} (may : R → ℕ → Type 0) (gives : R → ℕ → ℕ → Type 0) (cost : ℕ → ℕ) (parts : Parts R) (scale : Scale) (book : List BookEntry) (net : Net) (log : Log) (bound : Option ℕ) (slice assumed : List Lit) → AreWeighed may gives cost parts scale book → BelongTo net log parts → IsNetwork net → IsValidLog log →
+    ReadsAs (read_meanings parts.code.coded) (log_guards parts.code.coded) (guard_literals parts.code.coded.net parts.code.coded.log) → IfSome bound (MayBound scale) → slice ≡ assumed → assumed ≡ assumed_at parts.code.coded scale bound → CanSearch parts.solver.vars slice
+can_search may gives cost parts scale book net log bound slice assumed weighed belong network valid read may_bound same is = subst (CanSearch parts.solver.vars) (sym (same ∙ is)) (record {
+  known = assumed_known cost parts.step parts.code.coded parts.counter parts.vars (axioms_of book) scale weighed.coded net log belong.of_steps network valid belong.same_log read parts.solver.vars weighed.enough bound may_bound;
+  compatible = compatible (assumed_at parts.code.coded scale bound) (told cost parts.step parts.code.coded parts.counter parts.vars (axioms_of book) scale weighed.coded net log belong.of_steps network valid belong.same_log read bound may_bound).tells.consistent;
+})
+
 -- ---- what is answered
 
-module _ (q : CostAsked) (code : CodedLog) (scale : Scale) (bound : Option ℕ) (mid new : List BookEntry) (before after : ℕ) (searched : IsSearched mid new before after) (known : HasAxiomVars mid) where
-  same_since : (since : List BookEntry) → new ≡ mid ++ since → since ≡ searched.since
-  same_since since whole = append_cancel_left mid since searched.since (sym whole ∙ searched.whole)
+-- what was put is put for the answer
+put_since : (mid new : List BookEntry) (before after : ℕ) (searching : IsSearching mid new before after) (answer : Answer) → HasPut mid new answer → IsPutFor answer searching.since
+put_since mid new before after searching answer put = subst (IsPutFor answer) (append_cancel_left mid put.since searching.since (sym put.whole ∙ searching.whole)) put.put
 
-  now_axioms : axioms_of new ≡ axioms_of mid
-  now_axioms = ap axioms_of searched.whole ∙ same_axioms mid searched.since searched.derived
+pub solved : {E : Type 0} (slice items assumed : List Lit) (values : List Bool) (mid new : List BookEntry) (before after : ℕ) (result : Result Answer E) → slice ≡ items → items ≡ assumed → HasAxiomVars mid → IsSearched mid new before after → IfOk result (HasPut mid new) → IfOk result (IsAnswer values new slice after) →
+    IfOk result (IsSolvedUnder assumed values mid new before after)
+solved slice items assumed values mid new before after (Err error) same is known searched put says = tt
+solved slice items assumed values mid new before after (Ok answer) same is known searched put says = record {
+  searching = searching_of mid new before after searched known;
+  put = put_since mid new before after (searching_of mid new before after searched known) answer put;
+  says = subst (λ (xs : List Lit). IsAnswer values new xs after answer) (same ∙ is) says;
+}
 
-  unmarked : (number : ℕ) → count_by (is_mark number) searched.since ≡ 0
-  unmarked number = derived_unmarked number searched.since searched.derived
+-- the last entry is the final one, and negates assumptions alone
+closes : (assumed : List Lit) (old new since : List BookEntry) (number : ℕ) → new ≡ old ++ since → (put : IsClosedByFinal since) → IsRefuted new assumed number → NegatesOnly assumed put.clause × Contains new (final put.clause put.hints)
+closes assumed old new since number whole put refuted = (
+  subst (NegatesOnly assumed) (same_last refuted.earlier (old ++ put.before) refuted.clause put.clause refuted.hints put.hints (sym refuted.last ∙ new_is)) (negates_only assumed refuted.clause refuted.negated),
+  subst (λ xs. Contains xs (final put.clause put.hints)) (sym new_is) (Contains-append_right (old ++ put.before) (final put.clause put.hints ∷ []) (final put.clause put.hints) (here_first (final put.clause put.hints) [] (final put.clause put.hints) refl)),
+)
+  where
+    new_is : new ≡ (old ++ put.before) ++ final put.clause put.hints ∷ []
+    new_is = whole ∙ ap (λ xs. old ++ xs) put.whole ∙ sym (append_assoc old put.before (final put.clause put.hints ∷ []))
 
-  paid : count_by is_learnt searched.since + after ≡ before
-  paid = omega (arith, searched.number, searched.paid)
+module _ {R : Type 0} (may : R → ℕ → Type 0) (gives : R → ℕ → ℕ → Type 0) (cost : ℕ → ℕ) (parts : Parts R) (scale : Scale) (net : Net) (log : Log) (bound : Option ℕ) (old new : List BookEntry) (before after : ℕ) (answer : Answer) (weighed : AreWeighed may gives cost parts scale new) (belong : BelongTo net log parts)
+    (network : IsNetwork net) (valid : IsValidLog log) (read : ReadsAs (read_meanings parts.code.coded) (log_guards parts.code.coded) (guard_literals parts.code.coded.net parts.code.coded.log)) (may_bound : IfSome bound (MayBound scale))
+    (says : IsSolvedUnder (assumed_at parts.code.coded scale bound) parts.solver.assignment old new before after answer) where
+  given_as : (other : Answer) → answer ≡ other → IsSolvedUnder (assumed_at parts.code.coded scale bound) parts.solver.assignment old new before after other
+  given_as other same = subst (IsSolvedUnder (assumed_at parts.code.coded scale bound) parts.solver.assignment old new before after) same says
 
-  fresh : HaveLearntFresh mid searched.since
-  fresh = record { number = refl; each = (searched.learnt_entries known).each }
+  with_meaning : (other : Answer) (is : IsSolvedUnder (assumed_at parts.code.coded scale bound) parts.solver.assignment old new before after other) (asked : Asked) → IsTrueCostAnswer (asked_of net cost log parts) scale bound (assumed_at parts.code.coded scale bound) is.searching.since new after asked →
+      HasAskedCost (asked_of net cost log parts) parts.code.coded scale bound old new before after asked
+  with_meaning other is asked means = record { searching = is.searching; means = means }
 
-  pub asked_spent : HasPut mid new solver.Spent → IsSpent new (assumed_at code scale bound) after → HasAskedCost q code scale bound mid new before after Spent
-  asked_spent put spent = record {
-    since = searched.since;
-    whole = searched.whole;
-    unmarked = unmarked;
-    paid = paid;
-    fresh = fresh;
-    means = record { nothing = spent.nothing; clashes = spent.clashes; learnt = subst AreLearnt (same_since put.since put.whole) put.put };
-  }
+  pub shown_spent : answer ≡ solver.Spent → HasAskedCost (asked_of net cost log parts) parts.code.coded scale bound old new before after Spent
+  shown_spent same = let is = given_as solver.Spent same in with_meaning solver.Spent is Spent (record { nothing = is.says.nothing; clashes = is.says.clashes; learnt = is.put })
 
-  pub asked_explained : (priced : Priced) → HasPut mid new solver.Sat → IsPriced q priced → IsWithin bound priced.cost → (0 < priced.cost → 0 < scale.inputs) → HasAskedCost q code scale bound mid new before after (Explained priced)
-  asked_explained priced put given within counted = record {
-    since = searched.since;
-    whole = searched.whole;
-    unmarked = unmarked;
-    paid = paid;
-    fresh = fresh;
-    means = record { given = given; within = within; counted = counted; learnt = subst AreLearnt (same_since put.since put.whole) put.put };
-  }
+  pub shown_refuted : (number : ℕ) → answer ≡ solver.Unsat number → IsValidBook new → HasAskedCost (asked_of net cost log parts) parts.code.coded scale bound old new before after Refuted
+  shown_refuted number same book =
+      let is = given_as (solver.Unsat number) same in
+      let ends = closes (assumed_at parts.code.coded scale bound) old new is.searching.since number is.searching.whole is.put is.says in
+      let tells = told cost parts.step parts.code.coded parts.counter parts.vars (axioms_of new) scale weighed.coded net log belong.of_steps network valid belong.same_log read bound may_bound in
+      with_meaning (solver.Unsat number) is Refuted (record {
+        out = costs_are_ruled_out (asked_of net cost log parts) bound (axioms_of new) (assumed_at parts.code.coded scale bound) is.put.clause tells (final_entailed new is.put.clause is.put.hints book ends.1) ends.0;
+        ends = record { before = is.put.before; clause = is.put.clause; hints = is.put.hints; whole = is.put.whole; learnt = is.put.all_learnt; negates = ends.0 };
+      })
 
-  pub asked_refuted : (number : ℕ) → PoseCostQuestion q bound (axioms_of mid) (assumed_at code scale bound) → HasPut mid new (solver.Unsat number) → IsRefuted new (assumed_at code scale bound) number → IsValidBook new →
-      HasAskedCost q code scale bound mid new before after Refuted
-  asked_refuted number tells put refuted valid = record {
-    since = searched.since;
-    whole = searched.whole;
-    unmarked = unmarked;
-    paid = paid;
-    fresh = fresh;
-    means = record {
-      out = costs_are_ruled_out q bound (axioms_of mid) (assumed_at code scale bound) put.put.clause tells
-          (subst (λ (axioms : List Clause). Entails axioms put.put.clause) now_axioms (final_entailed new put.put.clause put.put.hints valid there)) last_negates;
-      ends = record {
-        before = put.put.before;
-        clause = put.put.clause;
-        hints = put.put.hints;
-        whole = sym (same_since put.since put.whole) ∙ put.put.whole;
-        learnt = put.put.all_learnt;
-        negates = last_negates;
-      };
-    };
-  }
-    where
-      new_is : new ≡ (mid ++ put.put.before) ++ final put.put.clause put.put.hints ∷ []
-      new_is = put.whole ∙ ap (λ xs. mid ++ xs) put.put.whole ∙ sym (append_assoc mid put.put.before (final put.put.clause put.put.hints ∷ []))
+  pub shown_run : answer ≡ solver.Sat → IsTrueRun parts.step parts.code.coded (value_in parts.solver.assignment)
+  shown_run same =
+      let is = given_as solver.Sat same in
+      let value = value_in parts.solver.assignment in
+      model_run cost parts.step parts.code.coded parts.counter parts.vars (axioms_of new) scale weighed.coded net log belong.of_steps network valid belong.same_log read value bound (axioms_true value new is.says.clauses) is.says.assumptions
 
-      last_negates : NegatesOnly (assumed_at code scale bound) put.put.clause
-      last_negates = subst (NegatesOnly (assumed_at code scale bound)) (same_last refuted.earlier (mid ++ put.put.before) refuted.clause put.put.clause refuted.hints put.put.hints (sym refuted.last ∙ new_is)) (negates_only (assumed_at code scale bound) refuted.clause refuted.negated)
-
-      there : Contains new (final put.put.clause put.put.hints)
-      there = subst (λ xs. Contains xs (final put.put.clause put.put.hints)) (sym new_is)
-          (Contains-append_right (mid ++ put.put.before) (final put.put.clause put.put.hints ∷ []) (final put.put.clause put.put.hints) (here_first (final put.put.clause put.put.hints) [] (final put.put.clause put.put.hints) refl))
+  pub shown_explained : (priced : Priced) → answer ≡ solver.Sat → IsPriced (asked_of net cost log parts) priced → IsTotalOf cost parts priced.cost → HasAskedCost (asked_of net cost log parts) parts.code.coded scale bound old new before after (Explained priced)
+  shown_explained priced same given totals =
+      let is = given_as solver.Sat same in
+      let value = value_in parts.solver.assignment in
+      let total = totals weighed.coded.inputs weighed.coded.weighted in
+      with_meaning solver.Sat is (Explained priced) (record {
+        given = given;
+        within = model_within cost parts.step parts.code.coded parts.counter parts.vars (axioms_of new) scale weighed.coded net log belong.of_steps network valid belong.same_log read value bound may_bound (axioms_true value new is.says.clauses) is.says.assumptions priced.cost total;
+        counted = model_counted cost parts.step parts.code.coded parts.counter parts.vars (axioms_of new) scale weighed.coded net log belong.of_steps network valid belong.same_log read value priced.cost total;
+        learnt = is.put;
+      })

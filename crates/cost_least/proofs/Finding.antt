@@ -50,43 +50,40 @@ coded_back cost old new axioms scale keeps coded =
     subst (λ (s : CodedSteps). AreWeighedParts cost s old.code.coded new.counter new.vars axioms scale) keeps.step
     (subst (λ (c : LogCodeState). AreWeighedParts cost new.step c.coded new.counter new.vars axioms scale) keeps.code coded)
 
+-- ---- what a search puts
+
+pub found_by : (q : CostAsked) (old new : List BookEntry) (budget left : ℕ) (searching : IsSearching old new budget left) (cheap : Cheap) → HasConflictOf q new cheap → IsCheapFound q (axioms_of new) searching.since budget cheap → HasFoundCost q budget old new cheap
+found_by q old new budget left searching cheap conflict is = record {
+  since = searching.since;
+  whole = searching.whole;
+  unmarked = searching.unmarked;
+  within = (let paid = searching.paid in omega (arith, paid));
+  fresh = searching.fresh;
+  found = is;
+  conflict = conflict;
+}
+
 -- ---- without a bound
 
 module _ (q : CostAsked) (code : CodedLog) (scale : Scale) (old new : List BookEntry) (before after : ℕ) where
   pub found_absent : PoseCostQuestion q None (axioms_of new) (assumed_at code scale None) → HasAskedCost q code scale None old new before after Refuted → HasFoundCost q before old new Absent
-  found_absent told asked = record {
-    since = asked.since;
-    whole = asked.whole;
-    unmarked = asked.unmarked;
-    within = (let paid = asked.paid in omega (arith, paid));
-    fresh = asked.fresh;
-    found = record {
-      absent = asked.means.out;
-      evidence = record {
-        assumed = assumed_at code scale None;
-        refuted = (let ends = asked.means.ends in record { earlier = ends.before; clause = ends.clause; hints = ends.hints; later = []; whole = ends.whole; last = refl; negates = ends.negates });
-        told = told;
-      };
+  found_absent told asked = found_by q old new before after asked.searching Absent tt (record {
+    absent = asked.means.out;
+    evidence = record {
+      assumed = assumed_at code scale None;
+      refuted = (let ends = asked.means.ends in record { earlier = ends.before; clause = ends.clause; hints = ends.hints; later = []; whole = ends.whole; last = refl; negates = ends.negates });
+      told = told;
     };
-    conflict = tt;
-  }
+  })
 
   pub found_nothing : PoseCostQuestion q None (axioms_of new) (assumed_at code scale None) → HasAskedCost q code scale None old new before after Spent → HasFoundCost q before old new (Undecided 0 None)
-  found_nothing told asked = record {
-    since = asked.since;
-    whole = asked.whole;
-    unmarked = asked.unmarked;
-    within = (let paid = asked.paid in omega (arith, paid));
-    fresh = asked.fresh;
-    found = record {
-      spent = (let paid = asked.paid in let nothing = asked.means.nothing in omega (arith, paid, nothing));
-      needs = λ word order explains. omega arith;
-      evidence = λ b is. absurd (omega (arith, is));
-      given = tt;
-      unknown = (refl, learnt_no_final asked.since asked.means.learnt);
-    };
-    conflict = record { assumed = assumed_at code scale None; told = told; clashes = asked.means.clashes };
-  }
+  found_nothing told asked = found_by q old new before after asked.searching (Undecided 0 None) (record { assumed = assumed_at code scale None; told = told; clashes = asked.means.clashes }) (record {
+    spent = (let paid = asked.searching.paid in let nothing = asked.means.nothing in omega (arith, paid, nothing));
+    needs = λ word order explains. omega arith;
+    evidence = λ b is. absurd (omega (arith, is));
+    given = tt;
+    unknown = (refl, learnt_no_final asked.searching.since asked.means.learnt);
+  })
 
 -- ---- where entries came before, none of which is final
 

@@ -1,5 +1,5 @@
 -- The search by halving: what it has come to, and where it ends.
-use Rattle.std.proofs.Common.{◌≡◌, ◌∙◌, ◌⊎◌, inl, inr, ℕ, suc, ◌+◌, ◌-◌, ◌<◌, ◌≤◌, List, [], ◌∷◌, ◌++◌, Option, None, Some, refl, sym, ap, subst, arith, Contains, count_by, append_assoc, append-nil}
+use Rattle.std.proofs.Common.{◌≡◌, ◌∙◌, ◌⊎◌, inl, inr, ℕ, suc, ◌+◌, ◌-◌, ◌<◌, ◌≤◌, List, [], ◌∷◌, ◌++◌, Option, None, Some, refl, sym, ap, subst, arith, Contains, append_assoc, append-nil}
 use Rattle.std.specs.Prelude.{min}
 use Rattle.std.specs.List.{AllByRecursion}
 use Rattle.std.proofs.lemmas.Bool.{cases_lt}
@@ -7,25 +7,24 @@ use Rattle.std.proofs.lemmas.List.Elements.{Contains-append_cases, Contains-appe
 use Rattle.card_counter.specs.CounterState.{negative}
 use Rattle.des_base.proofs.Elements.{cons_cases, none_in_nil}
 use Rattle.event_costs.specs.declared.TheConstants.{MOST_COST}
+use Rattle.least_faults.proofs.Climbing.{searching_further, searching_none}
 use Rattle.least_faults.proofs.Entailing.{final_entailed}
-use Rattle.least_faults.proofs.Freshness.{fresh_none, fresh_both}
 use Rattle.least_faults.proofs.Putting.{learnt_no_final, no_final_in, none_joined, only_final}
 use Rattle.least_faults.specs.Evidence.{HasFinal, HasLastFinal}
 use Rattle.log_clauses.proofs.Lists.{all_at}
 use Rattle.log_encode.specs.CodedLog.{CodedLog}
-use Rattle.proof_ledger.specs.Book.{BookEntry, final, axioms_of, clauses_of, is_mark, IsValidBook}
-use Rattle.proof_ledger.specs.Fresh.{is_learnt}
+use Rattle.proof_ledger.specs.Book.{BookEntry, final, axioms_of, clauses_of, IsValidBook}
 use Rattle.prop_core.specs.Clauses.{HasValues, negation, NegatesOnly}
 use Rattle.prop_core.specs.Trail.{Clashes}
 use Rattle.prop_core.specs.declared.lit.Lit.{Lit}
 use Rattle.replay.specs.Matching.{order_of}
 use Rattle.replay.specs.Traced.{word_of}
-use Rattle.run_decode.proofs.Faults.{count_append}
 use Rattle.run_decode.proofs.Tells.{told_is_refuted}
 use Rattle.sat_solve.specs.Searching.{AreLearnt, IsClosedByFinal}
 use Rattle.weight_counter.specs.Scales.{place_variable}
 use Rattle.weight_counter.specs.declared.scale.Scale.{Scale}
 use Rattle.cost_least.proofs.Asked.{ends_cheapest, ends_dear, needed}
+use Rattle.cost_least.proofs.Finding.{found_by}
 use Rattle.cost_least.specs.Answers.{CostAsked, PoseCostQuestion, IsPriced, Needs, IsBetween, IsCostEvidence}
 use Rattle.cost_least.specs.Asking.{HasAskedCost}
 use Rattle.cost_least.specs.Pricing.{ExplainsAt}
@@ -45,11 +44,7 @@ same_amount scale i j b same = let vars = ap (λ (l : Lit). l.var) same in omega
 module _ (q : CostAsked) (code : CodedLog) (scale : Scale) where
   pub halved_none : (book : List BookEntry) (budget : ℕ) (known : Priced) → IsPriced q known → (0 < known.cost → 0 < scale.inputs) → HasHalved q code scale book book budget budget 0 known
   halved_none book budget known given counted = record {
-    since = [];
-    whole = sym (append-nil book);
-    unmarked = λ number. refl;
-    paid = omega arith;
-    fresh = fresh_none book;
+    searching = searching_none book budget;
     finals = λ clause hints in'. absurd (none_in_nil (final clause hints) in');
     last = λ b is. absurd (omega (arith, is));
     needs = λ word order explains. omega arith;
@@ -59,21 +54,15 @@ module _ (q : CostAsked) (code : CodedLog) (scale : Scale) where
   }
 
   module _ (old mid new : List BookEntry) (budget before after lo : ℕ) (best : Priced) (come : HasHalved q code scale old mid budget before lo best) where
-    both_unmarked : (more : List BookEntry) → ((number : ℕ) → count_by (is_mark number) more ≡ 0) → (number : ℕ) → count_by (is_mark number) (come.since ++ more) ≡ 0
-    both_unmarked more unmarked number = count_append (is_mark number) come.since more ∙ (let one = come.unmarked number in let two = unmarked number in omega (arith, one, two))
-
-    both_paid : (more : List BookEntry) → count_by is_learnt more + after ≡ before → count_by is_learnt (come.since ++ more) + after ≡ budget
-    both_paid more paid = (let count = count_append is_learnt come.since more in omega (arith, count, paid, come.paid))
-
     -- learnt entries change nothing of what is refuted
-    learnt_finals : (more : List BookEntry) → AreLearnt more → FinalsAreBelowTotal code scale lo (come.since ++ more)
-    learnt_finals more learnt clause hints in' = by (Contains-append_cases come.since more (final clause hints) in')
+    learnt_finals : (more : List BookEntry) → AreLearnt more → FinalsAreBelowTotal code scale lo (come.searching.since ++ more)
+    learnt_finals more learnt clause hints in' = by (Contains-append_cases come.searching.since more (final clause hints) in')
       where
-        by : Contains come.since (final clause hints) ⊎ Contains more (final clause hints) → (j : ℕ) × (j < lo) × NegatesOnly (assumed_at code scale (Some j)) clause
+        by : Contains come.searching.since (final clause hints) ⊎ Contains more (final clause hints) → (j : ℕ) × (j < lo) × NegatesOnly (assumed_at code scale (Some j)) clause
         by (inl first) = come.finals clause hints first
         by (inr later) = absurd (no_final_in more clause hints (learnt_no_final more learnt) later)
 
-    learnt_last : (more : List BookEntry) → AreLearnt more → (b : ℕ) → lo ≡ suc b → HasLastFinal (come.since ++ more) (assumed_at code scale (Some b))
+    learnt_last : (more : List BookEntry) → AreLearnt more → (b : ℕ) → lo ≡ suc b → HasLastFinal (come.searching.since ++ more) (assumed_at code scale (Some b))
     learnt_last more learnt b is =
         let last = come.last b is in record {
           earlier = last.earlier;
@@ -87,13 +76,9 @@ module _ (q : CostAsked) (code : CodedLog) (scale : Scale) where
 
     pub halved_better : (bound : Option ℕ) (better : Priced) → HasAskedCost q code scale bound mid new before after (Explained better) → HasHalved q code scale old new budget after lo better
     halved_better bound better asked = record {
-      since = come.since ++ asked.since;
-      whole = asked.whole ∙ ap (λ xs. xs ++ asked.since) come.whole ∙ append_assoc old come.since asked.since;
-      unmarked = both_unmarked asked.since asked.unmarked;
-      paid = both_paid asked.since asked.paid;
-      fresh = fresh_both old mid come.since asked.since come.whole come.fresh asked.fresh;
-      finals = learnt_finals asked.since asked.means.learnt;
-      last = learnt_last asked.since asked.means.learnt;
+      searching = searching_further old mid new budget before after come.searching asked.searching;
+      finals = learnt_finals asked.searching.since asked.means.learnt;
+      last = learnt_last asked.searching.since asked.means.learnt;
       needs = come.needs;
       reached = come.reached;
       given = asked.means.given;
@@ -102,36 +87,32 @@ module _ (q : CostAsked) (code : CodedLog) (scale : Scale) where
 
     pub halved_refuted : (b : ℕ) → IsBetween lo best.cost b → HasAskedCost q code scale (Some b) mid new before after Refuted → HasHalved q code scale old new budget after (b + 1) best
     halved_refuted b between asked = record {
-      since = come.since ++ asked.since;
-      whole = asked.whole ∙ ap (λ xs. xs ++ asked.since) come.whole ∙ append_assoc old come.since asked.since;
-      unmarked = both_unmarked asked.since asked.unmarked;
-      paid = both_paid asked.since asked.paid;
-      fresh = fresh_both old mid come.since asked.since come.whole come.fresh asked.fresh;
+      searching = searching_further old mid new budget before after come.searching asked.searching;
       finals = finals;
-      last = λ b' is. subst (λ k. HasLastFinal (come.since ++ asked.since) (assumed_at code scale (Some k))) (let same : b ≡ b' = omega (arith, is) in same) last;
+      last = λ b' is. subst (λ k. HasLastFinal (come.searching.since ++ asked.searching.since) (assumed_at code scale (Some k))) (let same : b ≡ b' = omega (arith, is) in same) last;
       needs = subst (Needs q) (let next : suc b ≡ b + 1 = omega arith in next) asked.means.out;
       reached = (let few = between.few in omega (arith, few));
       given = come.given;
       counted = come.counted;
     }
       where
-        closed : IsClosedByFinal asked.since
+        closed : IsClosedByFinal asked.searching.since
         closed = let ends = asked.means.ends in record { before = ends.before; clause = ends.clause; hints = ends.hints; whole = ends.whole; all_learnt = ends.learnt }
 
-        finals : FinalsAreBelowTotal code scale (b + 1) (come.since ++ asked.since)
-        finals clause hints in' = by (Contains-append_cases come.since asked.since (final clause hints) in')
+        finals : FinalsAreBelowTotal code scale (b + 1) (come.searching.since ++ asked.searching.since)
+        finals clause hints in' = by (Contains-append_cases come.searching.since asked.searching.since (final clause hints) in')
           where
-            by : Contains come.since (final clause hints) ⊎ Contains asked.since (final clause hints) → (j : ℕ) × (j < b + 1) × NegatesOnly (assumed_at code scale (Some j)) clause
+            by : Contains come.searching.since (final clause hints) ⊎ Contains asked.searching.since (final clause hints) → (j : ℕ) × (j < b + 1) × NegatesOnly (assumed_at code scale (Some j)) clause
             by (inl first) = let found = come.finals clause hints first in let low = between.low in (found.0, omega (arith, found.1, low), found.2)
-            by (inr later) = (b, omega arith, subst (NegatesOnly (assumed_at code scale (Some b))) (sym (only_final asked.since clause hints closed later)) asked.means.ends.negates)
+            by (inr later) = (b, omega arith, subst (NegatesOnly (assumed_at code scale (Some b))) (sym (only_final asked.searching.since clause hints closed later)) asked.means.ends.negates)
 
-        last : HasLastFinal (come.since ++ asked.since) (assumed_at code scale (Some b))
+        last : HasLastFinal (come.searching.since ++ asked.searching.since) (assumed_at code scale (Some b))
         last = let ends = asked.means.ends in record {
-          earlier = come.since ++ ends.before;
+          earlier = come.searching.since ++ ends.before;
           clause = ends.clause;
           hints = ends.hints;
           later = [];
-          whole = ap (λ xs. come.since ++ xs) ends.whole ∙ sym (append_assoc come.since ends.before (final ends.clause ends.hints ∷ []));
+          whole = ap (λ xs. come.searching.since ++ xs) ends.whole ∙ sym (append_assoc come.searching.since ends.before (final ends.clause ends.hints ∷ []));
           last = refl;
           negates = ends.negates;
         }
@@ -139,13 +120,9 @@ module _ (q : CostAsked) (code : CodedLog) (scale : Scale) where
     -- where the budget is spent nothing is refuted
     pub halved_spent : (b : ℕ) → HasAskedCost q code scale (Some b) mid new before after Spent → HasHalved q code scale old new budget after lo best
     halved_spent b asked = record {
-      since = come.since ++ asked.since;
-      whole = asked.whole ∙ ap (λ xs. xs ++ asked.since) come.whole ∙ append_assoc old come.since asked.since;
-      unmarked = both_unmarked asked.since asked.unmarked;
-      paid = both_paid asked.since asked.paid;
-      fresh = fresh_both old mid come.since asked.since come.whole come.fresh asked.fresh;
-      finals = learnt_finals asked.since asked.means.learnt;
-      last = learnt_last asked.since asked.means.learnt;
+      searching = searching_further old mid new budget before after come.searching asked.searching;
+      finals = learnt_finals asked.searching.since asked.means.learnt;
+      last = learnt_last asked.searching.since asked.means.learnt;
       needs = come.needs;
       reached = come.reached;
       given = come.given;
@@ -156,46 +133,27 @@ module _ (q : CostAsked) (code : CodedLog) (scale : Scale) where
 
   module _ (old new : List BookEntry) (budget left lo : ℕ) (best : Priced) (come : HasHalved q code scale old new budget left lo best)
       (told : (b : ℕ) → b ≤ MOST_COST → 0 < scale.inputs → PoseCostQuestion q (Some b) (axioms_of new) (assumed_at code scale (Some b))) where
-    within : count_by is_learnt come.since ≤ budget
-    within = let paid = come.paid in omega (arith, paid)
-
-    evidence : (b : ℕ) → lo ≡ suc b → IsCostEvidence q (Some b) (axioms_of new) come.since
+    evidence : (b : ℕ) → lo ≡ suc b → IsCostEvidence q (Some b) (axioms_of new) come.searching.since
     evidence b is =
         let least = needed q lo best come.needs come.given in
         let reached = come.reached in
         record { assumed = assumed_at code scale (Some b); refuted = come.last b is; told = told b (omega (arith, is, reached)) (come.counted (omega (arith, least, is))) }
 
     pub halved_cheapest : min best.cost (1 + MOST_COST) ≤ lo → best.cost ≤ MOST_COST → HasFoundCost q budget old new (Found best)
-    halved_cheapest end few = record {
-      since = come.since;
-      whole = come.whole;
-      unmarked = come.unmarked;
-      within = within;
-      fresh = come.fresh;
-      found = ends_cheapest q (axioms_of new) come.since lo best come.needs come.given end few evidence;
-      conflict = tt;
-    }
+    halved_cheapest end few = found_by q old new budget left come.searching (Found best) tt (ends_cheapest q (axioms_of new) come.searching.since lo best come.needs come.given end few evidence)
 
     pub halved_dear : min best.cost (1 + MOST_COST) ≤ lo → MOST_COST < best.cost → HasFoundCost q budget old new (Dear best.run)
-    halved_dear end above = record {
-      since = come.since;
-      whole = come.whole;
-      unmarked = come.unmarked;
-      within = within;
-      fresh = come.fresh;
-      found = ends_dear q (axioms_of new) come.since lo best come.needs come.given end come.reached above evidence;
-      conflict = tt;
-    }
+    halved_dear end above = found_by q old new budget left come.searching (Dear best.run) tt (ends_dear q (axioms_of new) come.searching.since lo best come.needs come.given end come.reached above evidence)
 
     -- a final entry tells by its literals which total it refutes
-    finals_tell : IsValidBook new → HasValues scale.first (log_guards code) → PoseCostQuestion q None (axioms_of new) (assumed_at code scale None) → (b : ℕ) → HasFinal come.since (assumed_at code scale (Some b)) → b < lo
+    finals_tell : IsValidBook new → HasValues scale.first (log_guards code) → PoseCostQuestion q None (axioms_of new) (assumed_at code scale None) → (b : ℕ) → HasFinal come.searching.since (assumed_at code scale (Some b)) → b < lo
     finals_tell valid guards unbounded b has = by (cases_lt b lo)
       where
         here : (j : ℕ) × (j < lo) × NegatesOnly (assumed_at code scale (Some j)) has.clause
         here = come.finals has.clause has.hints has.there
 
         there : Contains new (final has.clause has.hints)
-        there = subst (λ xs. Contains xs (final has.clause has.hints)) (sym come.whole) (Contains-append_right old come.since (final has.clause has.hints) has.there)
+        there = subst (λ xs. Contains xs (final has.clause has.hints)) (sym come.searching.whole) (Contains-append_right old come.searching.since (final has.clause has.hints) has.there)
 
         known : AllByRecursion (λ (l : Lit). l.var < scale.first) (log_guards code)
         known = recursion_from_All (λ (l : Lit). l.var < scale.first) (log_guards code) guards
@@ -227,28 +185,21 @@ module _ (q : CostAsked) (code : CodedLog) (scale : Scale) where
     pub halved_undecided : IsValidBook new → HasValues scale.first (log_guards code) → PoseCostQuestion q None (axioms_of new) (assumed_at code scale None) → lo < min best.cost (1 + MOST_COST) → left ≡ 0 → (b : ℕ) → IsBetween lo best.cost b →
         Clashes (clauses_of new) (assumed_at code scale (Some b)) → HasFoundCost q budget old new (Undecided lo (Some best))
     halved_undecided valid guards unbounded less nothing b between clashes =
-        let some = come.counted (omega (arith, less)) in record {
-          since = come.since;
-          whole = come.whole;
-          unmarked = come.unmarked;
-          within = within;
-          fresh = come.fresh;
-          found = record {
-            spent = (let paid = come.paid in omega (arith, paid, nothing));
-            needs = come.needs;
-            evidence = evidence;
-            given = record {
-              given = come.given;
-              above = omega (arith, less);
-              greatest = record {
-                code = code;
-                scale = scale;
-                told = λ k few. told k few some;
-                finals = λ k few has. finals_tell valid guards unbounded k has;
-                last = come.last;
-              };
+        let some = come.counted (omega (arith, less)) in
+        found_by q old new budget left come.searching (Undecided lo (Some best)) (b, between, record { assumed = assumed_at code scale (Some b); told = told b between.few some; clashes = clashes }) (record {
+          spent = (let paid = come.searching.paid in omega (arith, paid, nothing));
+          needs = come.needs;
+          evidence = evidence;
+          given = record {
+            given = come.given;
+            above = omega (arith, less);
+            greatest = record {
+              code = code;
+              scale = scale;
+              told = λ k few. told k few some;
+              finals = λ k few has. finals_tell valid guards unbounded k has;
+              last = come.last;
             };
-            unknown = tt;
           };
-          conflict = (b, between, record { assumed = assumed_at code scale (Some b); told = told b between.few some; clashes = clashes });
-        }
+          unknown = tt;
+        })

@@ -14,4 +14,5 @@ pub mod Fitting
 mod Answering
 mod Halving
 mod Finding
+mod Rounds
 pub mod SameCosts

@@ -2,7 +2,8 @@
 use Rattle.std.proofs.Common.{◌≡◌, ◌∙◌, ℕ, ◌+◌, ◌*◌, ◌≤◌, List, [], ◌++◌, map, refl, sym, ap, subst, arith, append-nil}
 use Rattle.event_costs.specs.declared.TheConstants.{MOST_COST}
 use Rattle.card_counter.specs.CounterState.{CounterState}
-use Rattle.least_faults.proofs.Freshness.{fresh_none, fresh_searched}
+use Rattle.least_faults.proofs.Climbing.{searching_further, searching_none}
+use Rattle.least_faults.proofs.Freshness.{fresh_searched}
 use Rattle.least_faults.proofs.Putting.{derived_unmarked, same_axioms}
 use Rattle.least_faults.proofs.Ranking.{still_ranked}
 use Rattle.least_faults.specs.Asking.{IsSearching}
@@ -18,12 +19,12 @@ use Rattle.prop_core.specs.Clauses.{Clause}
 use Rattle.run_decode.specs.Decoding.{BelongTogether}
 use Rattle.sat_order.specs.Rank.{KeepsRanks}
 use Rattle.sat_solve.specs.Searching.{HasAxiomVars, IsSearched}
-use Rattle.sat_solve.specs.Solving.{SolverState}
+use Rattle.sat_solve.specs.Solving.{KeepsSize, SolverState}
 use Rattle.step_encode.specs.Coded.{CodedSteps}
 use Rattle.weight_counter.specs.Scales.{AddsScale, place_variable, scale_clauses}
 use Rattle.weight_counter.specs.declared.scale.Scale.{Scale}
 use Rattle.weight_counter.specs.declared.weighted.Weighted.{Weighted}
-use Rattle.cost_least.specs.Searching.{StayWeighed}
+use Rattle.cost_least.specs.Searching.{GoesOnWeighed}
 use Rattle.cost_least.specs.Weighed.{AreWeightedInputs, AreWeighedParts, AreWeighed, KeepsCode}
 use Rattle.proof_ledger.proofs.AxiomLists.{axioms_added}
 
@@ -58,7 +59,7 @@ adds_pushed book mid entries clauses same pushed = record { axioms = clauses; mo
 
 -- ---- as the solver searches
 
-pub weighed_after : {R : Type 0} (may : R → ℕ → Type 0) (gives : R → ℕ → ℕ → Type 0) (cost : ℕ → ℕ) (parts : Parts R) (scale : Scale) (solver : SolverState R) (before after : ℕ) (mid new : List BookEntry) → AreWeighed may gives cost parts scale mid →
+weighed_after : {R : Type 0} (may : R → ℕ → Type 0) (gives : R → ℕ → ℕ → Type 0) (cost : ℕ → ℕ) (parts : Parts R) (scale : Scale) (solver : SolverState R) (before after : ℕ) (mid new : List BookEntry) → AreWeighed may gives cost parts scale mid →
     IsSearched mid new before after → solver.adopted ≡ clauses_of new → solver.vars ≡ parts.solver.vars → KeepsRanks parts.solver.order solver.order → AreWeighed may gives cost (record parts { solver = solver }) scale new
 weighed_after may gives cost parts scale solver before after mid new weighed searched all same same_ranks = record {
   coded = subst (λ (axioms : List Clause). AreWeighedParts cost parts.step parts.code.coded parts.counter parts.vars axioms scale) (sym (ap axioms_of searched.whole ∙ same_axioms mid searched.since searched.derived)) weighed.coded;
@@ -78,16 +79,6 @@ searching_of mid new before after searched known = record {
   fresh = fresh_searched mid new before after searched known;
 }
 
-pub searching_none : (book : List BookEntry) (left : ℕ) → IsSearching book book left left
-searching_none book left = record { since = []; whole = sym (append-nil book); unmarked = λ number. refl; paid = omega arith; fresh = fresh_none book }
-
-pub stay_same : {R : Type 0} (may : R → ℕ → Type 0) (gives : R → ℕ → ℕ → Type 0) (parts : Parts R) (scale : Scale) (book : List BookEntry) → StayWeighed may gives parts parts scale book book
-stay_same may gives parts scale book = λ cost weighed. weighed
-
-pub stay_both : {R : Type 0} (may : R → ℕ → Type 0) (gives : R → ℕ → ℕ → Type 0) (old mid new : Parts R) (scale : Scale) (first then last : List BookEntry) → StayWeighed may gives old mid scale first then → StayWeighed may gives mid new scale then last →
-    StayWeighed may gives old new scale first last
-stay_both may gives old mid new scale first then last one two = λ cost weighed. two cost (one cost weighed)
-
 -- ---- what stays
 
 pub keeps_same : {R : Type 0} (parts : Parts R) → KeepsCode parts parts
@@ -100,3 +91,29 @@ pub belongs_still : {R : Type 0} (net : Net) (log : Log) (old new : Parts R) →
 belongs_still net log old new keeps belong =
     subst (λ (s : CodedSteps). BelongTogether net log s new.code.coded) (sym keeps.step)
     (subst (λ (c : LogCodeState). BelongTogether net log old.step c.coded) (sym keeps.code) belong)
+
+-- ---- the search goes on
+
+pub goes_none : {R : Type 0} (may : R → ℕ → Type 0) (gives : R → ℕ → ℕ → Type 0) (parts : Parts R) (scale : Scale) (book : List BookEntry) (left : ℕ) → GoesOnWeighed may gives parts parts scale book book left left
+goes_none may gives parts scale book left = record {
+  still = λ cost weighed. weighed;
+  kept = keeps_same parts;
+  searching = searching_none book left;
+}
+
+pub goes_both : {R : Type 0} (may : R → ℕ → Type 0) (gives : R → ℕ → ℕ → Type 0) (old mid new : Parts R) (scale : Scale) (first then last : List BookEntry) (budget before after : ℕ) → GoesOnWeighed may gives old mid scale first then budget before → GoesOnWeighed may gives mid new scale then last before after →
+    GoesOnWeighed may gives old new scale first last budget after
+goes_both may gives old mid new scale first then last budget before after one two = record {
+  still = λ cost weighed. two.still cost (one.still cost weighed);
+  kept = keeps_both old mid new one.kept two.kept;
+  searching = searching_further first then last budget before after one.searching two.searching;
+}
+
+-- as the solver searches
+pub goes_by_search : {R : Type 0} (may : R → ℕ → Type 0) (gives : R → ℕ → ℕ → Type 0) (parts : Parts R) (scale : Scale) (solver : SolverState R) (before after : ℕ) (mid new : List BookEntry) → HasAxiomVars mid → IsSearched mid new before after → solver.adopted ≡ clauses_of new → KeepsSize parts.solver solver →
+    GoesOnWeighed may gives parts (record parts { solver = solver }) scale mid new before after
+goes_by_search may gives parts scale solver before after mid new known searched all same = record {
+  still = λ cost weighed. weighed_after may gives cost parts scale solver before after mid new weighed searched all same.vars same.order;
+  kept = record { step = refl; code = refl; counter = refl; rank = same.order.rank };
+  searching = searching_of mid new before after searched known;
+}

@@ -1,9 +1,8 @@
 -- One question of costs: what it leaves in the book, and what its answer means.
-use Rattle.std.specs.Prelude.{◌≡◌, ℕ, suc, ◌+◌, ◌<◌, List, [], ◌∷◌, ◌++◌, Option, Some, None, count_by, ⊤}
-use Rattle.least_faults.specs.Answers.{HaveLearntFresh}
+use Rattle.std.specs.Prelude.{◌≡◌, ℕ, suc, ◌+◌, ◌<◌, List, [], ◌∷◌, ◌++◌, Option, Some, None, ⊤}
+use Rattle.least_faults.specs.Asking.{IsSearching}
 use Rattle.log_encode.specs.CodedLog.{CodedLog}
-use Rattle.proof_ledger.specs.Book.{BookEntry, final, clauses_of, is_mark}
-use Rattle.proof_ledger.specs.Fresh.{is_learnt}
+use Rattle.proof_ledger.specs.Book.{BookEntry, final, clauses_of}
 use Rattle.prop_core.specs.Clauses.{Clause, NegatesOnly}
 use Rattle.prop_core.specs.Trail.{Clashes}
 use Rattle.prop_core.specs.declared.lit.Lit.{Lit}
@@ -63,9 +62,5 @@ IsTrueCostAnswer q scale bound assumed since book budget Spent = HasNothingLeft 
 
 -- Derived entries alone were put, each learnt clause was paid for and fresh, and the answer means this.
 pub record HasAskedCost (q : CostAsked) (code : CodedLog) (scale : Scale) (bound : Option ℕ) (old new : List BookEntry) (budget_old budget_new : ℕ) (asked : Asked) : Type 0 where
-  pub since : List BookEntry
-  pub whole : new ≡ old ++ since
-  pub unmarked : (number : ℕ) → count_by (is_mark number) since ≡ 0
-  pub paid : count_by is_learnt since + budget_new ≡ budget_old
-  pub fresh : HaveLearntFresh old since
-  pub means : IsTrueCostAnswer q scale bound (assumed_at code scale bound) since new budget_new asked
+  pub searching : IsSearching old new budget_old budget_new
+  pub means : IsTrueCostAnswer q scale bound (assumed_at code scale bound) searching.since new budget_new asked

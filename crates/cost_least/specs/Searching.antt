@@ -1,9 +1,10 @@
 -- A search by halving: what it has found when it asks, and what it needs.
-use Rattle.std.specs.Prelude.{◌≡◌, ℕ, suc, ◌+◌, ◌<◌, ◌≤◌, List, ◌++◌, Option, Some, Contains, count_by}
+use Rattle.std.specs.Prelude.{◌≡◌, ℕ, suc, ◌+◌, ◌<◌, ◌≤◌, Bool, List, ◌++◌, Option, Some, Contains, count_by}
 use Rattle.des_net.specs.Network.{Net}
 use Rattle.event_costs.specs.StoredCosts.{GivesCosts}
 use Rattle.event_costs.specs.declared.TheConstants.{MOST_COST}
 use Rattle.least_faults.specs.Answers.{HaveLearntFresh}
+use Rattle.least_faults.specs.Asking.{IsSearching}
 use Rattle.least_faults.specs.Evidence.{HasLastFinal}
 use Rattle.least_faults.specs.declared.parts.Parts.{Parts}
 use Rattle.log_encode.specs.CodedLog.{CodedLog}
@@ -16,9 +17,11 @@ use Rattle.weight_counter.specs.declared.scale.Scale.{Scale}
 use Rattle.weight_counter.specs.declared.weighted.Weighted.{Weighted}
 use Rattle.prop_core.specs.declared.lit.Lit.{Lit}
 use Rattle.run_decode.specs.Decided.{Entails}
+use Rattle.sat_solve.specs.Searching.{IsAnswer, IsPutFor}
+use Rattle.sat_solve.specs.declared.answer.Answer.{Answer}
 use Rattle.cost_least.specs.Asking.{RulesOut}
 use Rattle.cost_least.specs.Answers.{CostAsked, PoseCostQuestion, IsPriced, Needs, IsCheapFound, HasConflictOf, IsCostAnswered}
-use Rattle.cost_least.specs.Weighed.{AreWeighed, AreWeighedParts, AreWeightedInputs, assumed_at}
+use Rattle.cost_least.specs.Weighed.{AreWeighed, AreWeighedParts, AreWeightedInputs, KeepsCode, assumed_at}
 use Rattle.cost_least.specs.declared.answer.Cheap.{Cheap}
 use Rattle.cost_least.specs.declared.answer.Priced.{Priced}
 
@@ -41,6 +44,18 @@ pub record AreAsked {R C : Type 0} (may : R → ℕ → Type 0) (gives : R → �
 abbrev pub StayWeighed : {R : Type 0} → (R → ℕ → Type 0) → (R → ℕ → ℕ → Type 0) → Parts R → Parts R → Scale → List BookEntry → List BookEntry → Type 0
 StayWeighed may gives old new scale old_book new_book = (cost : ℕ → ℕ) → AreWeighed may gives cost old scale old_book → AreWeighed may gives cost new scale new_book
 
+-- A search goes on: the parts keep their code and their scale. No marks were put, and as many learnt entries as were paid for, each of them fresh.
+pub record GoesOnWeighed {R : Type 0} (may : R → ℕ → Type 0) (gives : R → ℕ → ℕ → Type 0) (old new : Parts R) (scale : Scale) (old_book new_book : List BookEntry) (left_old left_new : ℕ) : Type 0 where
+  pub still : StayWeighed may gives old new scale old_book new_book
+  pub kept : KeepsCode old new
+  pub searching : IsSearching old_book new_book left_old left_new
+
+-- The solver was asked under what is assumed, and put and says this.
+pub record IsSolvedUnder (assumed : List Lit) (values : List Bool) (old new : List BookEntry) (left_old left_new : ℕ) (answer : Answer) : Type 0 where
+  pub searching : IsSearching old new left_old left_new
+  pub put : IsPutFor answer searching.since
+  pub says : IsAnswer values new assumed left_new answer
+
 -- it is what the true inputs weigh, whatever inputs the parts have with these costs
 abbrev pub IsTotalOf : {R : Type 0} → (ℕ → ℕ) → Parts R → ℕ → Type 0
 IsTotalOf cost parts total = (inputs : List Weighted) → AreWeightedInputs parts.step parts.code.coded cost inputs → total ≡ weight_true (value_in parts.solver.assignment) inputs
@@ -51,13 +66,9 @@ FinalsAreBelowTotal code scale lo since = (clause : Clause) (hints : List ℕ) �
 
 -- What the search has come to: totals below lo are refuted, the last of them by the last final entry, and a run of this total is known.
 pub record HasHalved (q : CostAsked) (code : CodedLog) (scale : Scale) (old new : List BookEntry) (budget_old budget_new lo : ℕ) (best : Priced) : Type 0 where
-  pub since : List BookEntry
-  pub whole : new ≡ old ++ since
-  pub unmarked : (number : ℕ) → count_by (is_mark number) since ≡ 0
-  pub paid : count_by is_learnt since + budget_new ≡ budget_old
-  pub fresh : HaveLearntFresh old since
-  pub finals : FinalsAreBelowTotal code scale lo since
-  pub last : (b : ℕ) → lo ≡ suc b → HasLastFinal since (assumed_at code scale (Some b))
+  pub searching : IsSearching old new budget_old budget_new
+  pub finals : FinalsAreBelowTotal code scale lo searching.since
+  pub last : (b : ℕ) → lo ≡ suc b → HasLastFinal searching.since (assumed_at code scale (Some b))
   pub needs : Needs q lo
   pub reached : lo ≤ 1 + MOST_COST
   pub given : IsPriced q best

@@ -2,7 +2,6 @@
 ghost use Rattle.std.specs.Prelude.{◌≡◌, ℕ, ◌≤◌, ◌++◌, IfOk, OnOk, IfSome};
 ghost use Rattle.des_base.specs.declared.TheConstants.{MOST_STEPS};
 ghost use Rattle.event_costs.specs.StoredCosts.{IsCost, GivesCosts};
-ghost use Rattle.least_faults.specs.Asking.{IsSearching};
 ghost use Rattle.least_faults.specs.Parts.{BelongTo};
 ghost use Rattle.prop_core.specs.Clauses.{value_in};
 ghost use Rattle.run_decode.specs.Decoding.{IsTrueRun};
@@ -10,8 +9,8 @@ ghost use Rattle.weight_counter.specs.Scales.{IsWithinVars};
 ghost use Rattle.cost_least.specs.Answers.{IsPriced};
 ghost use Rattle.cost_least.specs.Asking.{HasAskedCost, IsGiven};
 ghost use Rattle.cost_least.specs.Pricing.{cost_limit};
-ghost use Rattle.cost_least.specs.Searching.{MayBound, StayWeighed, asked_of, AreAsked, IsTotalOf};
-ghost use Rattle.cost_least.specs.Weighed.{AreWeighed, KeepsCode, assumed_at};
+ghost use Rattle.cost_least.specs.Searching.{MayBound, GoesOnWeighed, IsSolvedUnder, asked_of, AreAsked, IsTotalOf};
+ghost use Rattle.cost_least.specs.Weighed.{AreWeighed, assumed_at};
 
 use crate::answer::Priced;
 use crate::question::{CostQuestion, has_guards};
@@ -49,23 +48,41 @@ pub fn ask<C: Fn(u32) -> u32, R: Fn(u32) -> u64>(
     requires steps { parts.old.step.steps ≤ MOST_STEPS }
     requires asked { AreAsked R.pre R.post C.post costs.now.cost question.net.now parts.old question.scale book.old.entries }
     requires bound { IfSome within (MayBound question.scale) }
-    ensures still { StayWeighed R.pre R.post parts.old parts.new question.entry.scale book.old.entries book.new.entries }
-    ensures kept { KeepsCode parts.old parts.new }
-    ensures searching { IsSearching book.old.entries book.new.entries budget.old budget.new }
+    ensures goes_on { GoesOnWeighed R.pre R.post parts.old parts.new question.entry.scale book.old.entries book.new.entries budget.old budget.new }
     ensures given { IfOk result (λ asked. (cost : ℕ → ℕ) → GivesCosts C.post costs.now.cost question.entry.net.now cost → IsGiven (asked_of question.entry.net.now cost question.entry.log.now parts.new) asked) }
     ensures asked { IfOk result (λ asked. (cost : ℕ → ℕ) → GivesCosts C.post costs.now.cost question.entry.net.now cost → AreWeighed R.pre R.post cost parts.old question.entry.scale book.old.entries → HasAskedCost (asked_of question.entry.net.now cost question.entry.log.now parts.new) parts.new.code.coded question.entry.scale within book.old.entries book.new.entries budget.old budget.new asked) }
 {
     question.net.is_built();
     question.log.is_whole();
+    let answer = solve(question, within, parts, book, budget)?;
     has_guards(&parts.code);
-    let assumed = assumptions(question, within, &parts.code)?;
-    let answer = parts.solver.solve(book, assumed.as_slice(), budget)?;
     book.entries();
     match answer {
         Answer::Unsat(_) => Ok(Asked::Refuted),
         Answer::Spent => Ok(Asked::Spent),
         Answer::Sat => Ok(Asked::Explained(found_run(question, costs, parts)?)),
     }
+}
+
+// Asks the solver, under what is assumed.
+fn solve<R: Fn(u32) -> u64>(
+    question: CostQuestion<'_>,
+    within: Option<u32>,
+    parts: &mut Parts<R>,
+    book: &mut Ledger,
+    budget: &mut u64,
+) -> Result<Answer, Memory>
+    requires belong { BelongTo question.net.now question.log.now parts.old }
+    requires weighed { (cost : ℕ → ℕ) × AreWeighed R.pre R.post cost parts.old question.scale book.old.entries }
+    requires bound { IfSome within (MayBound question.scale) }
+    ensures goes_on { GoesOnWeighed R.pre R.post parts.old parts.new question.entry.scale book.old.entries book.new.entries budget.old budget.new }
+    ensures solved { IfOk result (IsSolvedUnder (assumed_at parts.new.code.coded question.entry.scale within) parts.new.solver.assignment book.old.entries book.new.entries budget.old budget.new) }
+{
+    question.net.is_built();
+    question.log.is_whole();
+    has_guards(&parts.code);
+    let assumed = assumptions(question, within, &parts.code)?;
+    parts.solver.solve(book, assumed.as_slice(), budget)
 }
 
 // What is assumed: the guards of the log, and the literal for the bound.

@@ -3,13 +3,12 @@ ghost use Rattle.std.specs.Prelude.{◌≡◌, ℕ, ◌<◌, ◌≤◌, min, ◌
 ghost use Rattle.des_base.specs.declared.TheConstants.{MOST_STEPS};
 ghost use Rattle.event_costs.specs.StoredCosts.{IsCost, GivesCosts};
 ghost use Rattle.event_costs.specs.declared.TheConstants.{MOST_COST};
-ghost use Rattle.least_faults.specs.Asking.{IsSearching};
 ghost use Rattle.least_faults.specs.Growing.{HasGrownWithin};
 ghost use Rattle.least_faults.specs.Parts.{AreReady, BelongTo};
 ghost use Rattle.least_faults.specs.declared.TheConstants.{MOST_SIZE};
 ghost use Rattle.cost_least.specs.Answers.{IsPriced, IsBetween};
 ghost use Rattle.cost_least.specs.Costs.{cost_size};
-ghost use Rattle.cost_least.specs.Searching.{AreAsked, HasAnsweredCosts, StayWeighed, asked_of, HasFoundCost};
+ghost use Rattle.cost_least.specs.Searching.{AreAsked, GoesOnWeighed, HasAnsweredCosts, asked_of, HasFoundCost};
 ghost use Rattle.cost_least.specs.Weighed.{AreWeighed, KeepsCode};
 
 use crate::answer::{Cheap, Priced};
@@ -75,9 +74,7 @@ fn search<C: Fn(u32) -> u32, R: Fn(u32) -> u64>(
     requires belong { BelongTo question.net.now question.log.now parts.old }
     requires steps { parts.old.step.steps ≤ MOST_STEPS }
     requires asked { AreAsked R.pre R.post C.post costs.now.cost question.net.now parts.old question.scale book.old.entries }
-    ensures still { StayWeighed R.pre R.post parts.old parts.new question.entry.scale book.old.entries book.new.entries }
-    ensures kept { KeepsCode parts.old parts.new }
-    ensures searching { IsSearching book.old.entries book.new.entries budget.old budget.new }
+    ensures goes_on { GoesOnWeighed R.pre R.post parts.old parts.new question.entry.scale book.old.entries book.new.entries budget.old budget.new }
     ensures found { IfOk result (λ cheap. (cost : ℕ → ℕ) → GivesCosts C.post costs.now.cost question.entry.net.now cost → AreWeighed R.pre R.post cost parts.old question.entry.scale book.old.entries → HasFoundCost (asked_of question.entry.net.now cost question.entry.log.now parts.new) budget.old book.old.entries book.new.entries cheap) }
 {
     question.net.is_built();
@@ -106,9 +103,7 @@ fn halve<C: Fn(u32) -> u32, R: Fn(u32) -> u64>(
     requires asked { AreAsked R.pre R.post C.post costs.now.cost question.net.now parts.old question.scale book.old.entries }
     requires known { (cost : ℕ → ℕ) → GivesCosts C.post costs.now.cost question.net.now cost → IsPriced (asked_of question.net.now cost question.log.now parts.old) known }
     requires counted { 0 < known.cost → 0 < question.scale.inputs }
-    ensures still { StayWeighed R.pre R.post parts.old parts.new question.entry.scale book.old.entries book.new.entries }
-    ensures kept { KeepsCode parts.old parts.new }
-    ensures searching { IsSearching book.old.entries book.new.entries budget.old budget.new }
+    ensures goes_on { GoesOnWeighed R.pre R.post parts.old parts.new question.entry.scale book.old.entries book.new.entries budget.old budget.new }
     ensures found { IfOk result (λ cheap. (cost : ℕ → ℕ) → GivesCosts C.post costs.now.cost question.entry.net.now cost → AreWeighed R.pre R.post cost parts.old question.entry.scale book.old.entries → HasFoundCost (asked_of question.entry.net.now cost question.entry.log.now parts.new) budget.old book.old.entries book.new.entries cheap) }
 {
     question.net.is_built();

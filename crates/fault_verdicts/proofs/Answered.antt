@@ -1,24 +1,24 @@
 -- What a question about an event comes to, by the answer of the solver; and what it is between its marks.
-use Rattle.std.proofs.Common.{◌≡◌, ◌↔◌, ◌∙◌, inl, inr, ℕ, ◌<◌, ◌≤◌, Bool, true, List, [], ◌∷◌, ◌++◌, length, map, refl, sym, ap, subst, arith, Contains, IsTrue, count_by, append_assoc}
+use Rattle.std.proofs.Common.{◌≡◌, ◌↔◌, ◌∙◌, inl, inr, ℕ, ◌<◌, ◌≤◌, Bool, true, List, [], ◌∷◌, ◌++◌, length, map, Result, Ok, Err, IfOk, refl, sym, ap, subst, arith, Contains, IsTrue, count_by, append_assoc}
 use Rattle.std.proofs.lemmas.List.{append_cancel_left}
 use Rattle.std.proofs.lemmas.List.Elements.{Contains-append_right as append_right}
 use Rattle.std.specs.List.{list_all}
 use Rattle.card_counter.specs.Counting.{true_count}
 use Rattle.des_base.proofs.Elements.{all_from as all_of, all_split, here_first}
 use Rattle.des_net.specs.Network.{Net, IsNetwork}
-use Rattle.fault_verdicts.proofs.Asking.{HasPosed}
+use Rattle.fault_verdicts.proofs.Asking.{HasPosed, has_posed}
 use Rattle.fault_verdicts.proofs.Events.{few_true, run_has, true_run_of}
+use Rattle.fault_verdicts.proofs.Going.{belong_on, ready_after_search}
 use Rattle.fault_verdicts.proofs.Judged.{open_found, possible_found, refuted_found}
 use Rattle.fault_verdicts.specs.Asked.{some_step_clauses}
 use Rattle.fault_verdicts.specs.Judged.{IsBestRun, IsJudged, IsVerdict}
-use Rattle.fault_verdicts.specs.Judging.{AreAssumedOf, IsVerdictShown, bound_for, verdict_of}
+use Rattle.fault_verdicts.specs.Judging.{AreAssumedOf, IsSolvedAbout, IsSaidBy, IsVerdictShown, KeepsStepsAndLog, bound_for, verdict_of}
 use Rattle.fault_verdicts.specs.declared.answer.Verdict.{Verdict}
 use Rattle.fault_verdicts.specs.declared.answer.Verdict.TheVariants.{Possible, Open}
-use Rattle.least_faults.proofs.Asked.{both_paid, both_unmarked, both_whole}
+use Rattle.least_faults.proofs.Asked.{axioms_true, searching_both}
 use Rattle.least_faults.proofs.Assuming.{negates_only}
 use Rattle.least_faults.proofs.Entailing.{final_entailed}
-use Rattle.least_faults.proofs.Freshness.{fresh_after}
-use Rattle.least_faults.proofs.Putting.{same_axioms, same_last}
+use Rattle.least_faults.proofs.Putting.{same_last}
 use Rattle.least_faults.specs.Evidence.{HasFinal}
 use Rattle.least_faults.specs.Growing.{AddsAxioms}
 use Rattle.least_faults.specs.Parts.{BelongTo}
@@ -28,7 +28,7 @@ use Rattle.log_order.specs.Log.{Log, IsValidLog}
 use Rattle.log_order.specs.Order.{least_order}
 use Rattle.proof_ledger.specs.Book.{BookEntry, axiomatic, final, mark, axioms_of, clauses_of, IsValidBook}
 use Rattle.proof_ledger.specs.Fresh.{is_learnt, AreFresh}
-use Rattle.prop_core.specs.Clauses.{clause_true, is_true, literal_true, negation, AllClausesTrue, AllLiteralsTrue}
+use Rattle.prop_core.specs.Clauses.{clause_true, is_true, literal_true, negation, value_in, AllClausesTrue, AllLiteralsTrue}
 use Rattle.prop_core.specs.declared.lit.Lit.{Lit}
 use Rattle.replay.specs.Explanation.{Explains, faults_of}
 use Rattle.replay.specs.Matching.{IsWellMatched, order_of}
@@ -36,9 +36,11 @@ use Rattle.replay.specs.Traced.{word_of}
 use Rattle.replay.specs.declared.run.RunStep.{RunStep}
 use Rattle.run_decode.specs.Decoding.{IsTrueRun, decoded_run}
 use Rattle.run_decode.specs.RunNaming.{AreFalseLiterals, truth_of}
-use Rattle.sat_solve.specs.Searching.{HasAxiomVars, HasPut, IsRefuted, IsSearched, IsSpent}
-use Rattle.sat_solve.specs.declared.answer.Answer.TheVariants as solver
-use Rattle.step_encode.specs.Coded.{code_grid}
+use Rattle.sat_solve.specs.Searching.{HasPut, IsAnswer, IsModel, IsRefuted, IsSearched}
+use Rattle.sat_solve.specs.Solving.{KeepsSize, SolverState}
+use Rattle.sat_solve.specs.declared.answer.Answer.{Answer}
+use Rattle.sat_solve.specs.declared.answer.Answer.TheVariants.{Sat, Unsat, Spent}
+use Rattle.step_encode.specs.Coded.{CodedSteps, code_grid}
 use Rattle.step_encode.specs.FaultInputs.{fault_literals}
 use Rattle.proof_ledger.proofs.AxiomLists.{marked_axioms, marked_clauses}
 
@@ -61,89 +63,121 @@ module _ {R : Type 0} (may : R → ℕ → Type 0) (gives : R → ℕ → ℕ �
   few_faults : true_count value parts.counter.inputs ≤ k
   few_faults = few_true parts.step parts.code.coded parts.counter are.ready.own k (length parts.counter.inputs) are.guards value refl are.ready.beside.coded.together are.ready.clauses are.within own_true parts_true.0
 
--- ---- by the answer
+-- ---- what the solver says
 
-module _ (net : Net) (log : Log) (n k e : ℕ) (first : List RunStep) (there : Bool) (assumed : List Lit) (old mid new : List BookEntry) (before after : ℕ) (adds : AddsAxioms old mid) (searched : IsSearched mid new before after) (known : HasAxiomVars mid)
-    (best : IsBestRun net log n k first) (told : there ≡ true ↔ Contains (word_of first) e) (has : HasPosed (axioms_of mid) assumed net log n k e there) where
-  now_axioms : axioms_of new ≡ axioms_of mid
-  now_axioms = ap axioms_of searched.whole ∙ same_axioms mid searched.since searched.derived
+-- the last entry is the final one
+ends : (old mid new : List BookEntry) (before after : ℕ) (assumed : List Lit) (adds : AddsAxioms old mid) (searched : IsSearched mid new before after) (number : ℕ) → HasPut mid new (Unsat number) → IsRefuted new assumed number → HasFinal (map axiomatic adds.axioms ++ searched.since) assumed
+ends old mid new before after assumed adds searched number put refuted =
+    let same : put.since ≡ searched.since = append_cancel_left mid put.since searched.since (sym put.whole ∙ searched.whole) in
+    let last : (mid ++ put.put.before) ++ final put.put.clause put.put.hints ∷ [] ≡ refuted.earlier ++ final refuted.clause refuted.hints ∷ [] =
+    append_assoc mid put.put.before (final put.put.clause put.put.hints ∷ []) ∙ ap (λ xs. mid ++ xs) (sym put.put.whole) ∙ sym put.whole ∙ refuted.last in
+    let clause = same_last (mid ++ put.put.before) refuted.earlier put.put.clause refuted.clause put.put.hints refuted.hints last in
+    record {
+      clause = put.put.clause;
+      hints = put.put.hints;
+      there = append_right (map axiomatic adds.axioms) searched.since (final put.put.clause put.put.hints)
+          (subst (λ xs. Contains xs (final put.put.clause put.put.hints)) (sym put.put.whole ∙ same)
+          (append_right put.put.before (final put.put.clause put.put.hints ∷ []) (final put.put.clause put.put.hints) (here_first (final put.put.clause put.put.hints) [] (final put.put.clause put.put.hints) refl)));
+      negates = negates_only assumed put.put.clause (subst (λ c. list_all (λ l. is_true assumed (negation l)) c ≡ true) (sym clause) refuted.negated);
+    }
 
-  has_now : HasPosed (axioms_of new) assumed net log n k e there
-  has_now = subst (λ axioms. HasPosed axioms assumed net log n k e there) (sym now_axioms) has
+said_by : (old mid new : List BookEntry) (before after : ℕ) (values : List Bool) (assumed : List Lit) (adds : AddsAxioms old mid) (searched : IsSearched mid new before after) (answer : Answer) → HasPut mid new answer → IsAnswer values new assumed after answer → IsSaidBy values (map axiomatic adds.axioms ++ searched.since) new assumed after answer
+said_by old mid new before after values assumed adds searched Sat put is = is
+said_by old mid new before after values assumed adds searched (Unsat number) put is = ends old mid new before after assumed adds searched number put is
+said_by old mid new before after values assumed adds searched Spent put is = is
 
-  abbrev since : List BookEntry
-  since = map axiomatic adds.axioms ++ searched.since
+pub solved : {R E : Type 0} (may : R → ℕ → Type 0) (gives : R → ℕ → ℕ → Type 0) (parts : Parts R) (solver : SolverState R) (k e : ℕ) (there : Bool) (assumed slice : List Lit) (old mid new : List BookEntry) (before after : ℕ) (result : Result Answer E) → AreAssumedOf may gives parts mid k e there assumed →
+    slice ≡ assumed → AddsAxioms old mid → IsSearched mid new before after → solver.adopted ≡ clauses_of new → KeepsSize parts.solver solver → IfOk result (HasPut mid new) → IfOk result (IsAnswer solver.assignment new slice after) →
+    IfOk result (IsSolvedAbout may gives (record parts { solver = solver }) k e there old new before after)
+solved may gives parts solver k e there assumed slice old mid new before after (Err error) are same adds searched adopted kept put is = tt
+solved may gives parts solver k e there assumed slice old mid new before after (Ok answer) are same adds searched adopted kept put is = record {
+  assumed = assumed;
+  are = record {
+    made = are.made;
+    ready = ready_after_search may gives parts solver before after mid new are.made are.ready searched adopted kept.vars kept.order;
+    guards = are.guards;
+    within = are.within;
+    further = are.further;
+    about = are.about;
+    whole = are.whole;
+  };
+  searching = searching_both old mid new before after adds searched are.ready.beside.known;
+  says = said_by old mid new before after solver.assignment assumed adds searched answer put (subst (λ (xs : List Lit). IsAnswer solver.assignment new xs after answer) same is);
+}
 
-  with_verdict : (verdict : Verdict) → IsVerdict (axioms_of new) (clauses_of new) old since net log n k e before first verdict → IsVerdictShown net log n k e first before after old new verdict
+-- ---- what it shows
+
+module _ {R : Type 0} (may : R → ℕ → Type 0) (gives : R → ℕ → ℕ → Type 0) (begun parts : Parts R) (net : Net) (log : Log) (k e : ℕ) (first : List RunStep) (there : Bool) (old new : List BookEntry) (before after : ℕ) (answer : Answer)
+    (goes : KeepsStepsAndLog 1 begun parts) (belong : BelongTo net log begun) (best : IsBestRun net log begun.step.steps k first) (told : there ≡ true ↔ Contains (word_of first) e) (network : IsNetwork net) (valid : IsValidLog log) (known : e < length net.events)
+    (is : IsSolvedAbout may gives parts k e there old new before after answer) where
+  belong_now : BelongTo net log parts
+  belong_now = belong_on net log 1 begun parts goes belong
+
+  best_now : IsBestRun net log parts.step.steps k first
+  best_now = subst (λ (s : CodedSteps). IsBestRun net log s.steps k first) (sym goes.step) best
+
+  has : HasPosed (axioms_of new) is.assumed net log parts.step.steps k e there
+  has = has_posed may gives parts new net log k e there is.assumed is.are belong_now network valid known
+
+  with_verdict : (verdict : Verdict) → IsVerdict (axioms_of new) (clauses_of new) old is.searching.since net log parts.step.steps k e before first verdict → IsVerdictShown net log parts.step.steps k e first before after old new verdict
   with_verdict verdict found = record {
-    since = since;
-    whole = both_whole old mid new before after adds searched;
-    unmarked = both_unmarked old mid new before after adds searched;
-    paid = both_paid old mid new before after adds searched;
-    fresh = fresh_after old mid new before after adds searched known;
+    searching = is.searching;
     found = found;
   }
 
-  pub asked_open : IsSpent new assumed after → IsVerdictShown net log n k e first before after old new Open
-  asked_open spent =
-      let paid = both_paid old mid new before after adds searched in
+  pub shown_refuted : (number : ℕ) → answer ≡ Unsat number → IsValidBook new → IsVerdictShown net log parts.step.steps k e first before after old new (verdict_of there)
+  shown_refuted number unsat book =
+      let last = subst (IsSaidBy parts.solver.assignment is.searching.since new is.assumed after) unsat is.says in
+      let in' = subst (λ xs. Contains xs (final last.clause last.hints)) (sym is.searching.whole) (append_right old is.searching.since (final last.clause last.hints) last.there) in
+      with_verdict (verdict_of there) (refuted_found (axioms_of new) (clauses_of new) old is.searching.since net log parts.step.steps k e before first there is.assumed best_now last (final_entailed new last.clause last.hints book in') has)
+
+  pub shown_open : answer ≡ Spent → IsVerdictShown net log parts.step.steps k e first before after old new Open
+  shown_open none =
+      let spent = subst (IsSaidBy parts.solver.assignment is.searching.since new is.assumed after) none is.says in
+      let paid = is.searching.paid in
       let nothing = spent.nothing in
-      let all : count_by is_learnt since ≡ before = omega (arith, paid, nothing) in
-      with_verdict Open (open_found (axioms_of new) (clauses_of new) old since net log n k e before first there assumed told
-      (subst (AreFresh old since) all (fresh_after old mid new before after adds searched known)) has_now spent.clashes)
+      let all : count_by is_learnt is.searching.since ≡ before = omega (arith, paid, nothing) in
+      with_verdict Open (open_found (axioms_of new) (clauses_of new) old is.searching.since net log parts.step.steps k e before first there is.assumed told (subst (AreFresh old is.searching.since) all is.searching.fresh) has spent.clashes)
 
-  -- the last entry is the final one
-  ends : (number : ℕ) → HasPut mid new (solver.Unsat number) → IsRefuted new assumed number → HasFinal since assumed
-  ends number put refuted =
-      let same : put.since ≡ searched.since = append_cancel_left mid put.since searched.since (sym put.whole ∙ searched.whole) in
-      let last : (mid ++ put.put.before) ++ final put.put.clause put.put.hints ∷ [] ≡ refuted.earlier ++ final refuted.clause refuted.hints ∷ [] =
-      append_assoc mid put.put.before (final put.put.clause put.put.hints ∷ []) ∙ ap (λ xs. mid ++ xs) (sym put.put.whole) ∙ sym put.whole ∙ refuted.last in
-      let clause = same_last (mid ++ put.put.before) refuted.earlier put.put.clause refuted.clause put.put.hints refuted.hints last in
-      record {
-        clause = put.put.clause;
-        hints = put.put.hints;
-        there = append_right (map axiomatic adds.axioms) searched.since (final put.put.clause put.put.hints)
-            (subst (λ xs. Contains xs (final put.put.clause put.put.hints)) (sym put.put.whole ∙ same)
-            (append_right put.put.before (final put.put.clause put.put.hints ∷ []) (final put.put.clause put.put.hints) (here_first (final put.put.clause put.put.hints) [] (final put.put.clause put.put.hints) refl)));
-        negates = negates_only assumed put.put.clause (subst (λ c. list_all (λ l. is_true assumed (negation l)) c ≡ true) (sym clause) refuted.negated);
-      }
+  -- ---- of a model
 
-  pub asked_refuted : (number : ℕ) → HasPut mid new (solver.Unsat number) → IsRefuted new assumed number → IsValidBook new → IsVerdictShown net log n k e first before after old new (verdict_of there)
-  asked_refuted number put refuted valid =
-      let final_entry = ends number put refuted in
-      let in' = subst (λ xs. Contains xs (final final_entry.clause final_entry.hints)) (sym (both_whole old mid new before after adds searched)) (append_right old since (final final_entry.clause final_entry.hints) final_entry.there) in
-      with_verdict (verdict_of there) (refuted_found (axioms_of new) (clauses_of new) old since net log n k e before first there assumed best final_entry (final_entailed new final_entry.clause final_entry.hints valid in') has_now)
+  module _ (values : List Bool) (same : values ≡ parts.solver.assignment) (sat : answer ≡ Sat) where
+    model : IsModel values new is.assumed
+    model = subst (λ (vs : List Bool). IsModel vs new is.assumed) (sym same) (subst (IsSaidBy parts.solver.assignment is.searching.since new is.assumed after) sat is.says)
 
--- a run that differs
-pub asked_possible : {R : Type 0} (may : R → ℕ → Type 0) (gives : R → ℕ → ℕ → Type 0) (parts : Parts R) (net : Net) (log : Log) (k e : ℕ) (first other : List RunStep) (there : Bool) (assumed : List Lit) (old mid new : List BookEntry) (before after : ℕ) → AddsAxioms old mid → IsSearched mid new before after → HasAxiomVars mid →
-    IsBestRun net log parts.step.steps k first → there ≡ true ↔ Contains (word_of first) e → HasPosed (axioms_of mid) assumed net log parts.step.steps k e there → AreAssumedOf may gives parts mid k e there assumed → BelongTo net log parts → IsNetwork net → IsValidLog log → e < length net.events →
-    (value : ℕ → Bool) → AllClausesTrue value (axioms_of mid) → AllLiteralsTrue value assumed → IsWellMatched net log other → Explains net log parts.step.steps (word_of other) (order_of log other) →
-    ((false_lits : List Lit) → AreFalseLiterals parts.code.coded false_lits → faults_of net (word_of other) (order_of log other) ≡ true_count value (fault_literals net (code_grid parts.step) ++ false_lits)) →
-    other ≡ decoded_run net log (truth_of parts.step parts.code.coded value) (least_order (length log.alarms) log.pairs) parts.step.steps →
-    IsVerdictShown net log parts.step.steps k e first before after old new (Possible other)
-asked_possible may gives parts net log k e first other there assumed old mid new before after adds searched known best told has are belong network valid event value axioms literals matched explains faults run =
-    let n = parts.step.steps in
-    let grid = code_grid parts.step in
-    let is_true = assumed_true_run may gives parts mid k e there assumed are value axioms literals in
-    let inputs = are.ready.beside.coded.together.inputs in
-    let counted = faults inputs.false_lits inputs.read ∙ ap (λ (m : Net). true_count value (fault_literals m grid ++ inputs.false_lits)) (sym belong.of_steps) ∙ ap (true_count value) (sym inputs.whole) in
-    let few = few_faults may gives parts mid k e there assumed are value axioms literals in
-    with_verdict net log n k e first there assumed old mid new before after adds searched known best told has (Possible other)
-    (possible_found (axioms_of new) (clauses_of new) old (map axiomatic adds.axioms ++ searched.since) net log n k e before first other there grid are.made are.further value best told are.about
-    (riders_true may gives parts mid k e there assumed are value axioms literals) (parts_true may gives parts mid k e there assumed are value axioms literals).1 refl
-    (run_has net log parts.step parts.code.coded value other network valid belong is_true run e event) matched explains (omega (arith, counted, few)))
+    axioms : AllClausesTrue (value_in values) (axioms_of new)
+    axioms = axioms_true (value_in values) new model.clauses
+
+    pub shown_true_run : IsTrueRun parts.step parts.code.coded (value_in values)
+    shown_true_run = assumed_true_run may gives parts new k e there is.assumed is.are (value_in values) axioms model.assumptions
+
+    -- a run that differs
+    pub shown_possible : (other : List RunStep) → IsWellMatched net log other → Explains net log parts.step.steps (word_of other) (order_of log other) →
+        ((false_lits : List Lit) → AreFalseLiterals parts.code.coded false_lits → faults_of net (word_of other) (order_of log other) ≡ true_count (value_in values) (fault_literals net (code_grid parts.step) ++ false_lits)) →
+        other ≡ decoded_run net log (truth_of parts.step parts.code.coded (value_in values)) (least_order (length log.alarms) log.pairs) parts.step.steps →
+        IsVerdictShown net log parts.step.steps k e first before after old new (Possible other)
+    shown_possible other matched explains faults run =
+        let value = value_in values in
+        let grid = code_grid parts.step in
+        let inputs = is.are.ready.beside.coded.together.inputs in
+        let counted = faults inputs.false_lits inputs.read ∙ ap (λ (m : Net). true_count value (fault_literals m grid ++ inputs.false_lits)) (sym belong_now.of_steps) ∙ ap (true_count value) (sym inputs.whole) in
+        let few = few_faults may gives parts new k e there is.assumed is.are value axioms model.assumptions in
+        with_verdict (Possible other)
+        (possible_found (axioms_of new) (clauses_of new) old is.searching.since net log parts.step.steps k e before first other there grid is.are.made is.are.further value best_now told is.are.about
+        (riders_true may gives parts new k e there is.assumed is.are value axioms model.assumptions) (parts_true may gives parts new k e there is.assumed is.are value axioms model.assumptions).1 refl
+        (run_has net log parts.step parts.code.coded value other network valid belong_now shown_true_run run e known) matched explains (omega (arith, counted, few)))
 
 -- ---- between the marks
 
 pub judged : (net : Net) (log : Log) (n k e budget left : ℕ) (first : List RunStep) (old opened asked new : List BookEntry) (verdict : Verdict) → opened ≡ old ++ mark 0 ∷ [] → new ≡ asked ++ mark 1 ∷ [] → IsVerdictShown net log n k e first budget left opened asked verdict →
     IsJudged net log n k e budget first old new verdict
 judged net log n k e budget left first old opened asked new verdict begins closes is = record {
-  since = is.since;
-  whole = closes ∙ ap (λ b. b ++ mark 1 ∷ []) (is.whole ∙ ap (λ b. b ++ is.since) begins ∙ append_assoc old (mark 0 ∷ []) is.since);
-  unmarked = is.unmarked;
-  within = (let paid = is.paid in omega (arith, paid));
-  fresh = subst (λ b. AreFresh b is.since (count_by is_learnt is.since)) begins is.fresh;
-  found = subst (λ axioms. IsVerdict axioms (clauses_of new) (old ++ mark 0 ∷ []) is.since net log n k e budget first verdict) (sym (ap axioms_of closes ∙ marked_axioms asked 1))
-      (subst (λ clauses. IsVerdict (axioms_of asked) clauses (old ++ mark 0 ∷ []) is.since net log n k e budget first verdict) (sym (ap clauses_of closes ∙ marked_clauses asked 1))
-      (subst (λ b. IsVerdict (axioms_of asked) (clauses_of asked) b is.since net log n k e budget first verdict) begins is.found));
+  since = is.searching.since;
+  whole = closes ∙ ap (λ b. b ++ mark 1 ∷ []) (is.searching.whole ∙ ap (λ b. b ++ is.searching.since) begins ∙ append_assoc old (mark 0 ∷ []) is.searching.since);
+  unmarked = is.searching.unmarked;
+  within = (let paid = is.searching.paid in omega (arith, paid));
+  fresh = subst (λ b. AreFresh b is.searching.since (count_by is_learnt is.searching.since)) begins is.searching.fresh;
+  found = subst (λ axioms. IsVerdict axioms (clauses_of new) (old ++ mark 0 ∷ []) is.searching.since net log n k e budget first verdict) (sym (ap axioms_of closes ∙ marked_axioms asked 1))
+      (subst (λ clauses. IsVerdict (axioms_of asked) clauses (old ++ mark 0 ∷ []) is.searching.since net log n k e budget first verdict) (sym (ap clauses_of closes ∙ marked_clauses asked 1))
+      (subst (λ b. IsVerdict (axioms_of asked) (clauses_of asked) b is.searching.since net log n k e budget first verdict) begins is.found));
 }

@@ -14,6 +14,7 @@ use Rattle.fault_verdicts.specs.Telling.{AsksBeside, PosesEvents}
 use Rattle.least_faults.proofs.Assuming.{compatible}
 use Rattle.least_faults.proofs.Below.{read_below, room_names_below}
 use Rattle.least_faults.proofs.Posing.{clauses_ask}
+use Rattle.least_faults.proofs.Solved.{CanSearch}
 use Rattle.least_faults.specs.Asking.{AreAssumptions}
 use Rattle.least_faults.specs.Parts.{BelongTo, meanings_of_parts}
 use Rattle.least_faults.specs.declared.parts.Parts.{Parts}
@@ -22,7 +23,7 @@ use Rattle.log_clauses.specs.LogClauses.{guard_literals}
 use Rattle.log_encode.specs.CodedLog.{CodedLog}
 use Rattle.log_order.specs.Log.{Log, IsValidLog}
 use Rattle.proof_ledger.specs.Book.{BookEntry, axioms_of}
-use Rattle.prop_core.specs.Clauses.{AreConsistent, Clause, HasValues, negation}
+use Rattle.prop_core.specs.Clauses.{Clause, HasValues, negation}
 use Rattle.prop_core.specs.VariableNames.{ReadsAs}
 use Rattle.prop_core.specs.declared.grid.Grid.{Grid}
 use Rattle.prop_core.specs.declared.lit.Lit.{Lit}
@@ -97,9 +98,9 @@ has_posed may gives parts book net log k e there assumed are belong network vali
 pub none_signed : (grid : Grid) (e : ℕ) → no_step_literals grid e ≡ event_signed grid false e
 none_signed grid e = map_map (event_literal grid e) negation (numbers_below grid.steps)
 
-pub assumed_known : {R : Type 0} (may : R → ℕ → Type 0) (gives : R → ℕ → ℕ → Type 0) (parts : Parts R) (book : List BookEntry) (net : Net) (log : Log) (k e values : ℕ) (there : Bool) (assumed : List Lit) → AreAssumedOf may gives parts book k e there assumed → BelongTo net log parts →
+assumed_known : {R : Type 0} (may : R → ℕ → Type 0) (gives : R → ℕ → ℕ → Type 0) (parts : Parts R) (book : List BookEntry) (k e values : ℕ) (there : Bool) (assumed : List Lit) → AreAssumedOf may gives parts book k e there assumed →
     e < length parts.step.net.events → parts.vars ≤ values → HasValues values assumed
-assumed_known may gives parts book net log k e values there assumed are belong known more =
+assumed_known may gives parts book k e values there assumed are known more =
     subst (HasValues values) (sym are.whole) (All-append (λ (l : Lit). l.var < values) are.guards are.further guards (by there are.about))
   where
     asks : Asks parts.step.net parts.code.coded.log parts.step.steps (Some k) (meanings_of_parts parts) are.ready.own are.guards
@@ -114,5 +115,10 @@ assumed_known may gives parts book net log k e values there assumed are belong k
         let low = all_at (λ (entry : ℕ × ℕ). entry.0 < parts.vars) are.made are.ready.below (about.0, e) about.1 in
         subst (HasValues values) (sym about.2) (All-cons (λ (l : Lit). l.var < values) (positive about.0) [] (omega (arith, low, more)) (All-nil (λ (l : Lit). l.var < values)))
 
-pub assumed_consistent : (clauses : List Clause) (assumed : List Lit) (net : Net) (log : Log) (n k e : ℕ) (there : Bool) → HasPosed clauses assumed net log n k e there → AreConsistent assumed
-assumed_consistent clauses assumed net log n k e there has = compatible assumed has.posed.tells.consistent
+-- so the solver can be asked under them
+pub can_search : {R : Type 0} (may : R → ℕ → Type 0) (gives : R → ℕ → ℕ → Type 0) (parts : Parts R) (book : List BookEntry) (net : Net) (log : Log) (k e : ℕ) (there : Bool) (assumed slice : List Lit) → AreAssumedOf may gives parts book k e there assumed → BelongTo net log parts → IsNetwork net → IsValidLog log →
+    e < length net.events → slice ≡ assumed → CanSearch parts.solver.vars slice
+can_search may gives parts book net log k e there assumed slice are belong network valid known same = subst (CanSearch parts.solver.vars) (sym same) (record {
+  known = assumed_known may gives parts book k e parts.solver.vars there assumed are (subst (λ (m : Net). e < length m.events) (sym belong.of_steps) known) are.ready.beside.enough;
+  compatible = compatible assumed (has_posed may gives parts book net log k e there assumed are belong network valid known).posed.tells.consistent;
+})

@@ -1,5 +1,6 @@
 -- A literal that is made for an event: what is put into the book, and what the solver and later calls find.
-use Rattle.std.proofs.Common.{◌≡◌, ◌∙◌, ℕ, ◌+◌, ◌<◌, ◌≤◌, true, false, List, [], ◌∷◌, ◌++◌, drop, length, sym, ap, subst, arith, length-append}
+use Rattle.std.proofs.Common.{◌≡◌, ◌∙◌, ℕ, ◌+◌, ◌<◌, ◌≤◌, true, false, List, [], ◌∷◌, ◌++◌, drop, length, Result, Ok, Err, sym, ap, subst, arith, length-append}
+use Rattle.std.specs.Prelude.{OnErr}
 use Rattle.std.proofs.Math.Seq.{take-append_seam, drop-append_seam}
 use Rattle.std.proofs.lemmas.List.Elements.{Contains-append_right as append_right}
 use Rattle.std.specs.List.{AllByRecursion}
@@ -31,8 +32,8 @@ clause_is steps grid vars e none first whole l empty pushed literal is written =
     ∙ ap (λ (ls : List Lit). ls ++ event_signed (code_grid steps) true e) (pushed ∙ ap (λ (ls : List Lit). ls ++ l ∷ []) empty ∙ ap (λ (x : Lit). x ∷ []) literal)
 
 -- the clause as an axiom more
-pub clause_put : (book mid entries : List BookEntry) (clause slice : List Lit) (whole : Clause) → mid ≡ book → slice ≡ clause → clause ≡ whole → entries ≡ mid ++ axiomatic slice ∷ [] → entries ≡ book ++ axiomatic whole ∷ []
-clause_put book mid entries clause slice whole same view is pushed = pushed ∙ ap (λ (b : List BookEntry). b ++ axiomatic slice ∷ []) same ∙ ap (λ (c : Clause). book ++ axiomatic c ∷ []) (view ∙ is)
+pub clause_put : (book mid entries : List BookEntry) (slice whole : Clause) → mid ≡ book → slice ≡ whole → entries ≡ mid ++ axiomatic slice ∷ [] → entries ≡ book ++ axiomatic whole ∷ []
+clause_put book mid entries slice whole same is pushed = pushed ∙ ap (λ (b : List BookEntry). b ++ axiomatic slice ∷ []) same ∙ ap (λ (c : Clause). book ++ axiomatic c ∷ []) is
 
 pub adds_one : (book entries : List BookEntry) (clause : Clause) → entries ≡ book ++ axiomatic clause ∷ [] → AddsAxioms book entries
 adds_one book entries clause pushed = record { axioms = clause ∷ []; more = pushed }
@@ -62,3 +63,8 @@ has_made may gives parts solver vars book entries made e literal ready known fau
   there = append_right made ((parts.vars, e) ∷ []) (literal.var, e) (here_first (parts.vars, e) [] (literal.var, e) (ap (λ (l : Lit). (l.var, e)) (sym literal_is)));
   holds = literal_is ∙ ap (λ (l : Lit). positive l.var) (sym literal_is);
 }
+
+-- what holds is said of an error too
+pub on_err : {A B : Type 0} (r : Result A B) (P : Type 0) → P → OnErr r P
+on_err (Ok a) P p = tt
+on_err (Err e) P p = p

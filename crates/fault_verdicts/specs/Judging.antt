@@ -1,5 +1,5 @@
 -- The question about one event on its way: what is made and assumed for it, and what is asked of the solver.
-use Rattle.std.specs.Prelude.{◌≡◌, ℕ, zero, suc, ◌+◌, ◌*◌, ◌≤◌, ◌==◌, Bool, true, false, List, [], ◌∷◌, ◌++◌, length, map, Option, None, Some, Contains, count_by}
+use Rattle.std.specs.Prelude.{◌≡◌, ℕ, zero, suc, ◌+◌, ◌*◌, ◌≤◌, ◌==◌, Bool, true, false, List, [], ◌∷◌, ◌++◌, length, map, Option, None, Some, Contains}
 use Rattle.card_counter.specs.CounterState.{CounterState, positive}
 use Rattle.des_base.specs.Lists.{numbers_below}
 use Rattle.des_net.specs.Network.{Net}
@@ -8,17 +8,19 @@ use Rattle.fault_verdicts.specs.Judged.{IsVerdict}
 use Rattle.fault_verdicts.specs.Ready.{AreReadyWith}
 use Rattle.fault_verdicts.specs.declared.answer.Verdict.{Verdict}
 use Rattle.fault_verdicts.specs.declared.answer.Verdict.TheVariants.{Certain, Excluded}
-use Rattle.least_faults.specs.Answers.{HaveLearntFresh}
-use Rattle.least_faults.specs.Asking.{AreAssumptions}
+use Rattle.least_faults.specs.Asking.{AreAssumptions, IsSearching}
+use Rattle.least_faults.specs.Evidence.{HasFinal}
 use Rattle.least_faults.specs.Growing.{KeepsColumns}
 use Rattle.least_faults.specs.declared.parts.Parts.{Parts}
 use Rattle.log_order.specs.Log.{Log}
-use Rattle.proof_ledger.specs.Book.{BookEntry, axioms_of, clauses_of, is_mark}
-use Rattle.proof_ledger.specs.Fresh.{is_learnt}
+use Rattle.proof_ledger.specs.Book.{BookEntry, axioms_of, clauses_of}
 use Rattle.prop_core.specs.Grids.{grid_variable}
 use Rattle.prop_core.specs.declared.grid.Grid.{Grid}
 use Rattle.prop_core.specs.declared.lit.Lit.{Lit}
 use Rattle.replay.specs.declared.run.RunStep.{RunStep}
+use Rattle.sat_solve.specs.Searching.{IsModel, IsSpent}
+use Rattle.sat_solve.specs.declared.answer.Answer.{Answer}
+use Rattle.sat_solve.specs.declared.answer.Answer.TheVariants.{Sat, Unsat, Spent}
 use Rattle.step_encode.specs.Coded.{code_grid}
 
 -- the literal of an event in step t, counted from 0, with this sign
@@ -68,6 +70,19 @@ pub record AreAssumedOf {R : Type 0} (may : R → ℕ → Type 0) (gives : R →
   pub about : IsAbout there made (code_grid parts.step) e further
   pub whole : assumed ≡ guards ++ further
 
+-- what the solver says under what is assumed: a model, a final entry that refutes it, or a further conflict
+abbrev pub IsSaidBy : List Bool → List BookEntry → List BookEntry → List Lit → ℕ → Answer → Type 0
+IsSaidBy values since book assumed left Sat = IsModel values book assumed
+IsSaidBy values since book assumed left (Unsat number) = HasFinal since assumed
+IsSaidBy values since book assumed left Spent = IsSpent book assumed left
+
+-- The solver was asked under what is assumed of the event, and says this.
+pub record IsSolvedAbout {R : Type 0} (may : R → ℕ → Type 0) (gives : R → ℕ → ℕ → Type 0) (parts : Parts R) (k e : ℕ) (there : Bool) (old new : List BookEntry) (left_old left_new : ℕ) (answer : Answer) : Type 0 where
+  pub assumed : List Lit
+  pub are : AreAssumedOf may gives parts new k e there assumed
+  pub searching : IsSearching old new left_old left_new
+  pub says : IsSaidBy parts.solver.assignment searching.since new assumed left_new answer
+
 -- the step has this event
 abbrev pub has_this : ℕ → Option ℕ → Bool
 has_this e None = false
@@ -80,9 +95,5 @@ verdict_of false = Excluded
 
 -- The entries that were put show the verdict, by what was left of the budget; each clause that was learnt was fresh.
 pub record IsVerdictShown (net : Net) (log : Log) (n k e : ℕ) (first : List RunStep) (left_old left_new : ℕ) (old new : List BookEntry) (verdict : Verdict) : Type 0 where
-  pub since : List BookEntry
-  pub whole : new ≡ old ++ since
-  pub unmarked : (number : ℕ) → count_by (is_mark number) since ≡ 0
-  pub paid : count_by is_learnt since + left_new ≡ left_old
-  pub fresh : HaveLearntFresh old since
-  pub found : IsVerdict (axioms_of new) (clauses_of new) old since net log n k e left_old first verdict
+  pub searching : IsSearching old new left_old left_new
+  pub found : IsVerdict (axioms_of new) (clauses_of new) old searching.since net log n k e left_old first verdict

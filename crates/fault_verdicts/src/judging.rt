@@ -3,7 +3,7 @@ ghost use Rattle.std.specs.Prelude.{◌≡◌, ◌<◌, ◌≤◌, ◌↔◌, Co
 ghost use Rattle.des_base.specs.declared.TheConstants.{MOST_STEPS};
 ghost use Rattle.des_net.specs.Network.{is_fault};
 ghost use Rattle.fault_verdicts.specs.Judged.{IsBestRun, IsJudged};
-ghost use Rattle.fault_verdicts.specs.Judging.{AreAssumedOf, KeepsStepsAndLog, IsVerdictShown, has_this, verdict_of};
+ghost use Rattle.fault_verdicts.specs.Judging.{AreAssumedOf, IsSolvedAbout, KeepsStepsAndLog, IsVerdictShown, has_this, verdict_of};
 ghost use Rattle.fault_verdicts.specs.Ready.{AreReadyForVerdicts};
 ghost use Rattle.least_faults.specs.Asking.{IsSearching};
 ghost use Rattle.least_faults.specs.Growing.{AddsAxioms, HasGrownWithin};
@@ -95,8 +95,7 @@ fn ask<R: Fn(u32) -> u64>(
     about.net.is_built();
     about.log.is_whole();
     let there = has_event(first, event);
-    let assumed = assume(about.alloc, parts, book, k, there, event)?;
-    let answer = parts.solver.solve(book, assumed.as_slice(), left)?;
+    let answer = solve(about, parts, book, k, there, event, left)?;
     book.entries();
     match answer {
         Answer::Unsat(_) => Ok(refuted(there)),
@@ -110,6 +109,33 @@ fn ask<R: Fn(u32) -> u64>(
             &parts.code,
         )?)),
     }
+}
+
+// Asks the solver, under what is assumed of the event.
+fn solve<R: Fn(u32) -> u64>(
+    about: About<'_>,
+    parts: &mut Parts<R>,
+    book: &mut Ledger,
+    k: u32,
+    there: bool,
+    event: EventId,
+    left: &mut u64,
+) -> Result<Answer, Memory>
+    requires belong { BelongTo about.net.now about.log.now parts.old }
+    requires ready { AreReadyForVerdicts R.pre R.post parts.old book.old.entries }
+    requires few { k ≤ 255 }
+    requires known { event < length about.net.now.events }
+    requires fault { is_fault about.net.now event ≡ true }
+    requires room { parts.old.vars ≤ 1000000000 }
+    ensures ready { AreReadyForVerdicts R.pre R.post parts.new book.new.entries }
+    ensures goes_on { KeepsStepsAndLog 1 parts.old parts.new }
+    ensures searching { IsSearching book.old.entries book.new.entries left.old left.new }
+    ensures solved { IfOk result (IsSolvedAbout R.pre R.post parts.new k event there book.old.entries book.new.entries left.old left.new) }
+{
+    about.net.is_built();
+    about.log.is_whole();
+    let assumed = assume(about.alloc, parts, book, k, there, event)?;
+    parts.solver.solve(book, assumed.as_slice(), left)
 }
 
 // What is assumed of the event: that it happens in no step where the known run has it, and else a literal that gives it in some.

@@ -26,13 +26,13 @@ pub returns-in_err-put_mark-clause-kept : goal.returns-in_err-put_mark-clause-ke
 returns-in_err-put_mark-clause-kept g c = keeps_same c.args.parts.now
 
 pub returns-in_err-cheap-clause-kept : goal.returns-in_err-cheap-clause-kept
-returns-in_err-cheap-clause-kept g c = keeps_both c.args.parts.now c.weigh.new.parts c.search.new.parts c.weigh.ensures.kept c.search.ensures.kept
+returns-in_err-cheap-clause-kept g c = keeps_both c.args.parts.now c.weigh.new.parts c.search.new.parts c.weigh.ensures.kept c.search.ensures.goes_on.kept
 
 pub returns-in_err-put_mark-2-clause-kept : goal.returns-in_err-put_mark-2-clause-kept
-returns-in_err-put_mark-2-clause-kept g c = keeps_both c.args.parts.now c.weigh.new.parts c.search.new.parts c.weigh.ensures.kept c.search.ensures.kept
+returns-in_err-put_mark-2-clause-kept g c = keeps_both c.args.parts.now c.weigh.new.parts c.search.new.parts c.weigh.ensures.kept c.search.ensures.goes_on.kept
 
 pub returns-clause-kept : goal.returns-clause-kept
-returns-clause-kept g c = keeps_both c.args.parts.now c.weigh.new.parts c.search.new.parts c.weigh.ensures.kept c.search.ensures.kept
+returns-clause-kept g c = keeps_both c.args.parts.now c.weigh.new.parts c.search.new.parts c.weigh.ensures.kept c.search.ensures.goes_on.kept
 
 pub returns-in_err-put_mark-clause-grown : goal.returns-in_err-put_mark-clause-grown
 returns-in_err-put_mark-clause-grown g c =
@@ -44,17 +44,17 @@ returns-in_err-scale-clause-grown g c =
 
 pub returns-in_err-cheap-clause-grown : goal.returns-in_err-cheap-clause-grown
 returns-in_err-cheap-clause-grown g c =
-    grown_searched c.args.budget c.search.new.budget c.args.book.now.entries c.put_mark.new.self.entries c.weigh.new.book.entries c.search.new.book.entries (ap (λ (b : LedgerState). b.entries) c.in_ok-put_mark.ensures.added) c.weigh.ensures.axioms c.search.ensures.searching
+    grown_searched c.args.budget c.search.new.budget c.args.book.now.entries c.put_mark.new.self.entries c.weigh.new.book.entries c.search.new.book.entries (ap (λ (b : LedgerState). b.entries) c.in_ok-put_mark.ensures.added) c.weigh.ensures.axioms c.search.ensures.goes_on.searching
 
 pub returns-in_err-put_mark-2-clause-grown : goal.returns-in_err-put_mark-2-clause-grown
 returns-in_err-put_mark-2-clause-grown g c =
     subst (λ (b : LedgerState). HasGrownWithin c.args.budget c.args.book.now.entries b.entries) (sym c.in_err-put_mark-2.ensures.err)
-    (grown_searched c.args.budget c.search.new.budget c.args.book.now.entries c.put_mark.new.self.entries c.weigh.new.book.entries c.search.new.book.entries (ap (λ (b : LedgerState). b.entries) c.in_ok-put_mark.ensures.added) c.weigh.ensures.axioms c.search.ensures.searching)
+    (grown_searched c.args.budget c.search.new.budget c.args.book.now.entries c.put_mark.new.self.entries c.weigh.new.book.entries c.search.new.book.entries (ap (λ (b : LedgerState). b.entries) c.in_ok-put_mark.ensures.added) c.weigh.ensures.axioms c.search.ensures.goes_on.searching)
 
 pub returns-clause-grown : goal.returns-clause-grown
 returns-clause-grown g c =
     grown_closed c.args.budget c.args.book.now.entries c.search.new.book.entries c.put_mark-2.new.self.entries (ap (λ (b : LedgerState). b.entries) c.in_ok-put_mark-2.ensures.added)
-    (grown_searched c.args.budget c.search.new.budget c.args.book.now.entries c.put_mark.new.self.entries c.weigh.new.book.entries c.search.new.book.entries (ap (λ (b : LedgerState). b.entries) c.in_ok-put_mark.ensures.added) c.weigh.ensures.axioms c.search.ensures.searching)
+    (grown_searched c.args.budget c.search.new.budget c.args.book.now.entries c.put_mark.new.self.entries c.weigh.new.book.entries c.search.new.book.entries (ap (λ (b : LedgerState). b.entries) c.in_ok-put_mark.ensures.added) c.weigh.ensures.axioms c.search.ensures.goes_on.searching)
 
 pub returns-clause-answered : goal.returns-clause-answered
 returns-clause-answered g c =
@@ -68,5 +68,5 @@ returns-clause-answered g c =
           (c.in_ok-cheap.ensures.found asked.cost asked.answered asked.weighed);
       scale = c.in_ok-scale.scale;
       weighed = subst (λ (axioms : List Clause). AreWeighedParts asked.cost now.step now.code.coded now.counter now.vars axioms c.in_ok-scale.scale) (sym (ap axioms_of closing ∙ marked_axioms c.search.new.book.entries 1))
-          (c.search.ensures.still asked.cost asked.weighed).coded;
+          (c.search.ensures.goes_on.still asked.cost asked.weighed).coded;
     }

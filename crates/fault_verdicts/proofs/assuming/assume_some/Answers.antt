@@ -6,7 +6,7 @@ use Rattle.least_faults.proofs.AxiomLists.{adds_both}
 use Rattle.prop_core.specs.declared.lit.Lit.{Lit}
 
 pub returns-in_err-assumed-clause-ready : goal.returns-in_err-assumed-clause-ready
-returns-in_err-assumed-clause-ready g c = let ready = c.in_some_step.ensures.ready in (ready.0, c.guards_within.ensures.ready ready.0 ready.1)
+returns-in_err-assumed-clause-ready g c = let has = c.in_ok-literal.ensures.made in (has.made, c.guards_within.ensures.ready has.made has.ready)
 
 pub returns-in_err-assumed-clause-goes_on : goal.returns-in_err-assumed-clause-goes_on
 returns-in_err-assumed-clause-goes_on g c = goes_both 1 0 1 c.args.parts.now c.in_some_step.new.parts c.guards_within.new.parts (omega arith) c.in_some_step.ensures.goes_on c.guards_within.ensures.goes_on
@@ -15,7 +15,7 @@ pub returns-in_err-assumed-clause-axioms : goal.returns-in_err-assumed-clause-ax
 returns-in_err-assumed-clause-axioms g c = adds_both c.args.book.now.entries c.in_some_step.new.book.entries c.guards_within.new.book.entries c.in_some_step.ensures.axioms c.guards_within.ensures.axioms
 
 pub returns-in_err-push-clause-ready : goal.returns-in_err-push-clause-ready
-returns-in_err-push-clause-ready g c = let ready = c.in_some_step.ensures.ready in (ready.0, c.guards_within.ensures.ready ready.0 ready.1)
+returns-in_err-push-clause-ready g c = let has = c.in_ok-literal.ensures.made in (has.made, c.guards_within.ensures.ready has.made has.ready)
 
 pub returns-in_err-push-clause-goes_on : goal.returns-in_err-push-clause-goes_on
 returns-in_err-push-clause-goes_on g c = goes_both 1 0 1 c.args.parts.now c.in_some_step.new.parts c.guards_within.new.parts (omega arith) c.in_some_step.ensures.goes_on c.guards_within.ensures.goes_on
@@ -24,7 +24,7 @@ pub returns-in_err-push-clause-axioms : goal.returns-in_err-push-clause-axioms
 returns-in_err-push-clause-axioms g c = adds_both c.args.book.now.entries c.in_some_step.new.book.entries c.guards_within.new.book.entries c.in_some_step.ensures.axioms c.guards_within.ensures.axioms
 
 pub returns-clause-ready : goal.returns-clause-ready
-returns-clause-ready g c = let ready = c.in_some_step.ensures.ready in (ready.0, c.guards_within.ensures.ready ready.0 ready.1)
+returns-clause-ready g c = let has = c.in_ok-literal.ensures.made in (has.made, c.guards_within.ensures.ready has.made has.ready)
 
 pub returns-clause-goes_on : goal.returns-clause-goes_on
 returns-clause-goes_on g c = goes_both 1 0 1 c.args.parts.now c.in_some_step.new.parts c.guards_within.new.parts (omega arith) c.in_some_step.ensures.goes_on c.guards_within.ensures.goes_on
