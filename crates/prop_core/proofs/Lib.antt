@@ -1,6 +1,7 @@
 mod PieceLists
 pub mod Entailed
 pub mod Literals
+pub mod LiteralNumbers
 pub mod Standings
 pub mod Forcing
 pub mod Following

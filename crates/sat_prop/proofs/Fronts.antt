@@ -22,9 +22,6 @@ front_more old xs x e =
 pub front_length : {X : Type 0} (old xs : List X) → take (length old) xs ≡ old → length old ≤ length xs
 front_length old xs e = let g : length (take (length old) xs) ≡ length old = ap length e in grind (arith, common_steps)
 
-pub front_itself : {X : Type 0} (xs : List X) → take (length xs) xs ≡ xs
-front_itself xs = grind (arith, common_steps)
-
 pub front_at : {X : Type 0} (old new : List X) (k : ℕ) (d : X) → take (length old) new ≡ old → k < length old → get_or new k d ≡ get_or old k d
 front_at old new k d e h =
     let a : get_or (take (length old) new) k d ≡ get_or new k d = grind (arith, common_steps) in

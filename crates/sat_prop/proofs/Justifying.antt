@@ -16,7 +16,8 @@ use Rattle.sat_prop.specs.TrailState.{TrailState, IsReason, IsJustified, IsKnown
 use Rattle.sat_prop.specs.Quiet.{stands, AreQuiet, WasQuietBefore, JoinsQuietly}
 use Rattle.sat_prop.specs.Changes.{IsFront, Propagates, with_true_literal, with_attached_clause}
 use Rattle.sat_prop.specs.Kept.{IsTrailState}
-use Rattle.sat_prop.proofs.Fronts.{split_last, front_itself, front_more, front_held, front_same, known_at, contains_more}
+use Rattle.des_base.proofs.Elements.{take_whole}
+use Rattle.sat_prop.proofs.Fronts.{split_last, front_more, front_held, front_same, known_at, contains_more}
 
 -- the variables of a trail are apart
 pub justified_once : (cs : List Clause) (att : List ℕ) (literals : List Lit) (reasons : List (Option ℕ)) (vars : ℕ) → IsJustified cs att literals reasons vars → HasVarsOnce literals
@@ -200,7 +201,7 @@ state_attach t all new s f k q = record {
 
 -- no more literals
 pub propagates_none : (t : TrailState) → Propagates t t
-propagates_none t = record { clauses = refl; attached = refl; vars = refl; spare = refl; literals = front_itself t.literals; reasons = front_itself t.reasons; level = refl }
+propagates_none t = record { clauses = refl; attached = refl; vars = refl; spare = refl; literals = take_whole t.literals; reasons = take_whole t.reasons; level = refl }
 
 -- one more forced literal
 pub propagates_more : (old t new : TrailState) (l : Lit) (number : ℕ) → Propagates old t → new ≡ with_true_literal t l (Some number) → Propagates old new

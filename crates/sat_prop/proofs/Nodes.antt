@@ -1,5 +1,5 @@
 -- Watches and links stand together in nodes: what both lists are where a node is added or changed.
-use Rattle.std.proofs.Common.{◌≡◌, ◌∙◌, ℕ, zero, suc, ◌+◌, ◌-◌, ◌*◌, ◌/◌, ◌%◌, ◌<◌, ◌≤◌, Bool, true, false, ◌++◌, ◌∷◌, [], List, refl, ap, sym, length, get_or, arith, add-zero, eqb, ⊎_elim, Option, Some, None}
+use Rattle.std.proofs.Common.{◌≡◌, ◌∙◌, ℕ, zero, suc, ◌+◌, ◌-◌, ◌%◌, ◌<◌, ◌≤◌, ◌++◌, ◌∷◌, [], List, refl, ap, sym, length, get_or, arith, add-zero, eqb, ⊎_elim, Option, Some, None}
 use Rattle.std.specs.Prelude.{slice_set}
 use Rattle.std.proofs.Math.Nat.{add-mod, add-mod_right}
 use Rattle.std.proofs.lemmas.Grind.{common_steps}
@@ -10,7 +10,7 @@ use Rattle.sat_prop.specs.declared.watch_lists.Watch.{Watch}
 use Rattle.sat_prop.specs.declared.watch_lists.Node.{Node}
 use Rattle.sat_prop.specs.declared.watch_lists.Lists.{Lists}
 use Rattle.sat_prop.specs.declared.watch_lists.TheConstants.{NO_WATCH, NO_CLAUSE}
-use Rattle.prop_core.specs.LiteralNumbers.{literal_number, numbered_literal}
+use Rattle.prop_core.proofs.LiteralNumbers.{literal_back}
 use Rattle.sat_prop.specs.Watches.{AreWatchLists, alone, appended, as_link, cleared, dropped, ends_of, watched_literal, nexts_of, no_node, no_watch, node_at, twin_number, watch_at, watch_of, watches_from, watches_of, watching, with_dropped, with_ends, with_next_watch}
 use Rattle.sat_prop.proofs.Links.{ends, linked_to, relinked, relinked_length}
 use Rattle.sat_prop.proofs.Linking.{last_link}
@@ -30,14 +30,6 @@ twin_odd number h =
 
 pub pair_more : (number : ℕ) → number % 2 ≡ 0 → (number + 1 + 1) % 2 ≡ 0
 pair_more number h = let e : number + 1 + 1 ≡ number + 2 = omega arith in ap (λ (k : ℕ). k % 2) e ∙ add-mod_right number 2 ∙ h
-
--- the number of a literal gives it back
-pub code_back : (l : Lit) → numbered_literal (literal_number l) ≡ l
-code_back l = by l.positive l.var
-  where
-    by : (b : Bool) (v : ℕ) → numbered_literal (literal_number (record { var = v; positive = b })) ≡ record { var = v; positive = b }
-    by true v = let q : (2 * v + 1) / 2 ≡ v = omega arith in let r : (2 * v + 1) % 2 ≡ 1 = omega arith in rw (q, r) refl
-    by false v = let q : (2 * v + 0) / 2 ≡ v = omega arith in let r : (2 * v + 0) % 2 ≡ 0 = omega arith in rw (q, r) refl
 
 -- ---- watches and links of nodes
 
@@ -94,7 +86,7 @@ more_by_one nodes n = grind (arith, common_steps)
 
 -- the next one of the last node is none
 pub alone_keeps : (number clause : ℕ) (l : Lit) → watch_of number (alone clause l) ≡ record { clause = clause; lit = l; twin = twin_number number }
-alone_keeps number clause l = ap (λ (x : Lit). with_literal x) (code_back l)
+alone_keeps number clause l = ap (λ (x : Lit). with_literal x) (literal_back l)
   where
     with_literal : Lit → Watch
     with_literal x = record { clause = clause; lit = x; twin = twin_number number }

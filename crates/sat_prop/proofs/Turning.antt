@@ -14,7 +14,8 @@ use Rattle.sat_prop.specs.TrailState.{TrailState, literal_at}
 use Rattle.sat_prop.specs.declared.watch_lists.Watch.{Watch}
 use Rattle.sat_prop.specs.Watches.{IsLive, watch_at, watching, is_among, other_literal, no_watch}
 use Rattle.sat_prop.specs.Watching.{WatchedState, AreWatched, AreVisited, IsWatch, IsSettled, MakesUp, IsReplacement, IsLookedAt}
-use Rattle.sat_prop.proofs.Fronts.{split_last, front_itself}
+use Rattle.des_base.proofs.Elements.{take_whole}
+use Rattle.sat_prop.proofs.Fronts.{split_last}
 use Rattle.sat_prop.proofs.Links.{not_both}
 use Rattle.sat_prop.proofs.Covering.{covered_kept, live_of, twin_live}
 use Rattle.sat_prop.proofs.Settling.{negation_once}
@@ -153,7 +154,7 @@ module _ (t : TrailState) (w : WatchedState) (n : ℕ) (clause : Clause) (l : Li
     room_watches = a.room_watches;
     short = a.short;
     narrow = a.narrow;
-    all = λ number c. covered_kept t.clauses t.clauses w.short w.short w.lists.watches moved number (front_itself t.clauses) (λ k looked. looked_moved k looked) (a.all number c);
+    all = λ number c. covered_kept t.clauses t.clauses w.short w.short w.lists.watches moved number (take_whole t.clauses) (λ k looked. looked_moved k looked) (a.all number c);
     each = λ m h live. watch_moved m (rw (← same_length) h) live;
     settled = λ m h. each_moved (λ m. IsSettled t.clauses t.literals w.seen moved m)
         (settled_here w.seen (omega arith)) (settled_there w.seen (omega arith)) (λ m h d f. settled_moved w.seen m h d f (a.settled m h)) m (rw (← same_length) h);
