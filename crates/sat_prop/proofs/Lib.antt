@@ -20,7 +20,7 @@ mod Settling
 mod Turning
 mod Attaching
 mod Growing
-mod Judging
+mod Inspecting
 mod Waiting
 mod Visiting
 mod Subsuming

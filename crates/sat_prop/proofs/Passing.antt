@@ -13,7 +13,7 @@ use Rattle.sat_prop.specs.Changes.{IsFront, Propagates, with_true_literal}
 use Rattle.sat_prop.specs.Kept.{IsTrailState}
 use Rattle.sat_prop.specs.Watching.{WatchedState, AreWatched}
 use Rattle.sat_prop.proofs.Fronts.{contains_at, front_same, front_length, split_last}
-use Rattle.sat_prop.proofs.Judging.{IsFound, found}
+use Rattle.sat_prop.proofs.Inspecting.{IsFound, found}
 
 -- the short clause at a place is attached, and found in a database that has grown
 pub record IsFoundShort (t : TrailState) (all : List Clause) (short : List ℕ) (place number : ℕ) : Type 0 where

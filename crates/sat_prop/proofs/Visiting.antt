@@ -9,15 +9,15 @@ use Rattle.prop_core.proofs.Literals.{true_at}
 use Rattle.sat_prop.specs.TrailState.{TrailState, literal_at}
 use Rattle.sat_prop.specs.Kept.{IsTrailState}
 use Rattle.sat_prop.specs.Changes.{IsFront, Propagates}
-use Rattle.sat_prop.specs.declared.watched.Judged.TheVariants.{Stays, Moves}
+use Rattle.sat_prop.specs.declared.watched.Inspected.TheVariants.{Stays, Moves}
 use Rattle.sat_prop.specs.Watches.{WatchState, IsFirstWaiting, MovesWatch, PassesWatch, watch_at, watching, other_literal}
-use Rattle.sat_prop.specs.Watching.{WatchedState, AreWatched, AreVisited, IsVisiting, Visits, IsSettled, IsJudgedWatch, IsReplacement}
+use Rattle.sat_prop.specs.Watching.{WatchedState, AreWatched, AreVisited, IsVisiting, Visits, IsSettled, IsInspectedWatch, IsReplacement}
 use Rattle.sat_prop.proofs.Fronts.{front_length, front_at}
 use Rattle.sat_prop.proofs.Links.{not_both}
 use Rattle.sat_prop.proofs.Justifying.{justified_consistent}
 use Rattle.sat_prop.proofs.Moving.{first_same}
 use Rattle.sat_prop.proofs.Settling.{settled_live}
-use Rattle.sat_prop.proofs.Judging.{among_known}
+use Rattle.sat_prop.proofs.Inspecting.{among_known}
 use Rattle.sat_prop.proofs.Turning.{visited_moves, watched_moves}
 use Rattle.sat_prop.proofs.Waiting.{visited_stays, watched_waits}
 
@@ -92,8 +92,8 @@ module _ (old t : TrailState) (before w : WatchedState) (n : ℕ) (k : IsLooking
   passed lists p s = subst (λ (ls : WatchState). IsLooked old t before (record w { lists = ls })) (sym (p k.next.others n k.next.first))
       (looked (record w.lists { waiting = k.next.others }) refl (watched_waits t w (record w.lists { waiting = k.next.others }) k.watched refl refl refl) (visited_stays t w k.next.others n k.next.first k.visited s))
 
-  pub looked_stays : (lists : WatchState) → PassesWatch w.lists lists → IsJudgedWatch t before n Stays → IsLooked old t before (record w { lists = lists })
-  looked_stays lists p judged = passed lists p (subst (λ (s : WatchedState). IsJudgedWatch t s n Stays) (sym k.same) judged)
+  pub looked_stays : (lists : WatchState) → PassesWatch w.lists lists → IsInspectedWatch t before n Stays → IsLooked old t before (record w { lists = lists })
+  looked_stays lists p inspected = passed lists p (subst (λ (s : WatchedState). IsInspectedWatch t s n Stays) (sym k.same) inspected)
 
   -- one that was dropped
   pub looked_dropped : (lists : WatchState) → PassesWatch w.lists lists → (watch_at w.lists.watches n).clause ≡ 0 → IsLooked old t before (record w { lists = lists })
@@ -101,9 +101,9 @@ module _ (old t : TrailState) (before w : WatchedState) (n : ℕ) (k : IsLooking
       passed lists p (settled_live t.clauses t.literals (w.seen + 1) w.lists.watches n (λ live. let l : 1 ≤ (watch_at w.lists.watches n).clause = live in absurd (omega arith)))
 
   -- one that moves
-  module _ (state : IsTrailState t) (l : Lit) (judged : IsJudgedWatch t before n (Moves l)) where
-    here : IsJudgedWatch t w n (Moves l)
-    here = subst (λ (s : WatchedState). IsJudgedWatch t s n (Moves l)) (sym k.same) judged
+  module _ (state : IsTrailState t) (l : Lit) (inspected : IsInspectedWatch t before n (Moves l)) where
+    here : IsInspectedWatch t w n (Moves l)
+    here = subst (λ (s : WatchedState). IsInspectedWatch t s n (Moves l)) (sym k.same) inspected
 
     pub literal_known : l.var < w.lists.vars
     literal_known = among_known t w n here.1.0 l state k.watched k.next.within here.1.1 here.1.2.among

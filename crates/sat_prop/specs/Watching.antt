@@ -10,8 +10,8 @@ use Rattle.sat_prop.specs.Watches.{WatchState, IsLive, watch_at, other_literal, 
 use Rattle.sat_prop.specs.Quiet.{IsConflict}
 use Rattle.sat_prop.specs.Changes.{IsFront, Propagates}
 use Rattle.sat_prop.specs.declared.watch_lists.Watch.{Watch}
-use Rattle.sat_prop.specs.declared.watched.Judged.{Judged}
-use Rattle.sat_prop.specs.declared.watched.Judged.TheVariants.{Stays, Moves, False}
+use Rattle.sat_prop.specs.declared.watched.Inspected.{Inspected}
+use Rattle.sat_prop.specs.declared.watched.Inspected.TheVariants.{Stays, Moves, False}
 
 -- The numbers of the short clauses, for how many more of them there is room, the watches, and how many literals have been looked at.
 pub record WatchedState : Type 0 where
@@ -153,16 +153,16 @@ pub record IsReplacement (literals : List Lit) (clause : Clause) (other : Lit) (
   pub not_false : is_false (take (place + 1) literals) l ≡ false
 
 -- what becomes of a watch: it is settled by the next literal too, another literal replaces it, or its clause is false
-abbrev pub IsJudgedWatch : TrailState → WatchedState → ℕ → Judged → Type 0
-IsJudgedWatch t w number Stays = IsSettled t.clauses t.literals (w.seen + 1) w.lists.watches number
-IsJudgedWatch t w number (Moves l) =
+abbrev pub IsInspectedWatch : TrailState → WatchedState → ℕ → Inspected → Type 0
+IsInspectedWatch t w number Stays = IsSettled t.clauses t.literals (w.seen + 1) w.lists.watches number
+IsInspectedWatch t w number (Moves l) =
     (literal_at t.literals w.seen ≡ negation (watch_at w.lists.watches number).lit)
     × ((clause : Clause) × (clause_numbered t.clauses (watch_at w.lists.watches number).clause ≡ Some clause) × IsReplacement t.literals clause (other_literal w.lists.watches number) w.seen l)
-IsJudgedWatch t w number False = IsConflict t (watch_at w.lists.watches number).clause
+IsInspectedWatch t w number False = IsConflict t (watch_at w.lists.watches number).clause
 
 -- What comes of a watch whose literal is false, in a clause of this number that is watched at another one too: the literals up to a place force
 -- the other one, and it is true; or nothing changes, and another literal replaces it; or the clause is false.
-abbrev pub IsReplaced : TrailState → TrailState → ℕ → Lit → ℕ → Judged → Type 0
+abbrev pub IsReplaced : TrailState → TrailState → ℕ → Lit → ℕ → Inspected → Type 0
 IsReplaced t new number other place Stays =
     (IfSome (clause_numbered t.clauses number) (λ clause. is_forced_by (take (place + 1) t.literals) other clause ≡ true)) × (is_true new.literals other ≡ true)
 IsReplaced t new number other place (Moves l) = (new ≡ t) × IfSome (clause_numbered t.clauses number) (λ clause. IsReplacement t.literals clause other place l)

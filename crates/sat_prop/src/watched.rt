@@ -9,7 +9,7 @@ ghost use Rattle.sat_prop.specs.Quiet.{AreQuiet, IsConflict, IsPropagated, Joins
 ghost use Rattle.sat_prop.specs.Kept.{IsTrailState};
 ghost use Rattle.sat_prop.specs.Changes.{IsFront, Propagates, with_attached_clause, with_true_literal};
 ghost use Rattle.sat_prop.specs.Watches.{IsFirstWaiting, IsLive};
-ghost use Rattle.sat_prop.specs.Watching.{AreWatched, AreVisited, IsVisiting, Visits, AreTwo, IsForcing, IsJudgedWatch, IsSubsumed, OnlyDrops, IsReplacement, IsReplaced, IsNarrow, is_part_of, no_watched, unwatched};
+ghost use Rattle.sat_prop.specs.Watching.{AreWatched, AreVisited, IsVisiting, Visits, AreTwo, IsForcing, IsInspectedWatch, IsSubsumed, OnlyDrops, IsReplacement, IsReplaced, IsNarrow, is_part_of, no_watched, unwatched};
 
 use crate::propagator::Propagated;
 use crate::recent::{Learnt, RECENT, Recent, may_be_part, signature};
@@ -221,10 +221,10 @@ impl Watched {
     {
         'more: loop {
             let before = trail.len();
-            if let Some(id) = self.visit_short(trail, db) {
+            if let Some(id) = self.propagate_short(trail, db) {
                 return Propagated::Conflict(id);
             }
-            if let Some(id) = self.visit_watched(trail, db) {
+            if let Some(id) = self.propagate_watched(trail, db) {
                 return Propagated::Conflict(id);
             }
             trail.is_sound();
@@ -236,7 +236,7 @@ impl Watched {
 
     // Looks at the short clauses at level 0, and nowhere else: just before a decision they were neither false nor forced anything, so they
     // are true from there on. Answers one that is false.
-    fn visit_short(&self, trail: &mut Trail, db: &Clauses) -> Option<ClauseId>
+    fn propagate_short(&self, trail: &mut Trail, db: &Clauses) -> Option<ClauseId>
         requires watched { AreWatched trail.old self.now }
         requires grown { IsFront trail.old.clauses db.now.clauses }
         ensures watched { AreWatched trail.new self.now }
@@ -248,11 +248,11 @@ impl Watched {
         if trail.level() > 0 {
             return None;
         }
-        self.visit_each_short(trail, db)
+        self.propagate_each_short(trail, db)
     }
 
     // Looks at each short clause, and makes true what it forces. Answers one that is false.
-    fn visit_each_short(&self, trail: &mut Trail, db: &Clauses) -> Option<ClauseId>
+    fn propagate_each_short(&self, trail: &mut Trail, db: &Clauses) -> Option<ClauseId>
         requires watched { AreWatched trail.old self.now }
         requires grown { IsFront trail.old.clauses db.now.clauses }
         ensures watched { AreWatched trail.new self.now }
@@ -273,7 +273,7 @@ impl Watched {
     }
 
     // Looks at each literal that hasn't been looked at. Answers a clause that is false.
-    fn visit_watched(&mut self, trail: &mut Trail, db: &Clauses) -> Option<ClauseId>
+    fn propagate_watched(&mut self, trail: &mut Trail, db: &Clauses) -> Option<ClauseId>
         requires watched { AreWatched trail.old self.old }
         requires grown { IsFront trail.old.clauses db.now.clauses }
         ensures watched { AreWatched trail.new self.new }
@@ -285,7 +285,7 @@ impl Watched {
         'more: while self.seen < trail.len() {
             trail.is_sound();
             let lit = trail.literal(self.seen).negated();
-            if let Some(id) = self.visit(trail, db, lit) {
+            if let Some(id) = self.propagate_literal(trail, db, lit) {
                 return Some(id);
             }
             self.seen += 1;
@@ -294,7 +294,7 @@ impl Watched {
     }
 
     // Looks at each clause that watches the literal, which the first literal that hasn't been looked at makes false.
-    fn visit(&mut self, trail: &mut Trail, db: &Clauses, lit: Lit) -> Option<ClauseId>
+    fn propagate_literal(&mut self, trail: &mut Trail, db: &Clauses, lit: Lit) -> Option<ClauseId>
         requires visiting { IsVisiting trail.old self.old db.now.clauses lit }
         ensures visits { Visits trail.old self.old trail.new self.new }
         ensures conflict { IfSome result (IsConflict trail.new) }
@@ -303,7 +303,7 @@ impl Watched {
         trail.is_sound();
         self.lists.open(lit);
         'more: while let Some(number) = self.lists.next() {
-            if let Some(id) = self.look(trail, db, number, lit) {
+            if let Some(id) = self.propagate_watch(trail, db, number, lit) {
                 return Some(id);
             }
         }
@@ -311,7 +311,13 @@ impl Watched {
     }
 
     // Looks at the clause of the next watch that waits, unless it was dropped, and answers it where it is false.
-    fn look(&mut self, trail: &mut Trail, db: &Clauses, number: u32, lit: Lit) -> Option<ClauseId>
+    fn propagate_watch(
+        &mut self,
+        trail: &mut Trail,
+        db: &Clauses,
+        number: u32,
+        lit: Lit,
+    ) -> Option<ClauseId>
         requires next { IsFirstWaiting self.old.lists number }
         requires visiting { IsVisiting trail.old self.old db.now.clauses lit }
         requires visited { AreVisited trail.old self.old }
@@ -324,11 +330,11 @@ impl Watched {
             self.lists.forget();
             return None;
         }
-        self.look_at_clause(trail, db, number, lit)
+        self.propagate_clause(trail, db, number, lit)
     }
 
     // Looks at the clause of the next watch that waits, and answers it where it is false.
-    fn look_at_clause(
+    fn propagate_clause(
         &mut self,
         trail: &mut Trail,
         db: &Clauses,
@@ -345,30 +351,30 @@ impl Watched {
         ensures fewer { IfNone result (length self.new.lists.waiting + 1 ≡ length self.old.lists.waiting) }
     {
         let watch = self.lists.watch(number);
-        let judged = self.judge(trail, db, number, lit);
+        let inspected = self.inspect(trail, db, number, lit);
         trail.is_sound();
-        match judged {
-            Judged::Stays => self.lists.stay(),
-            Judged::Moves(found) => self.lists.put(found),
-            Judged::False => return Some(ClauseId(watch.clause as u64)),
+        match inspected {
+            Inspected::Stays => self.lists.stay(),
+            Inspected::Moves(found) => self.lists.put(found),
+            Inspected::False => return Some(ClauseId(watch.clause as u64)),
         }
         None
     }
 
     // What becomes of a watch. The other literal of its clause is made true where all others are false.
-    fn judge(&self, trail: &mut Trail, db: &Clauses, number: u32, lit: Lit) -> Judged
+    fn inspect(&self, trail: &mut Trail, db: &Clauses, number: u32, lit: Lit) -> Inspected
         requires number { number < length self.now.lists.watches }
         requires live { IsLive self.now.lists.watches number }
         requires visiting { IsVisiting trail.old self.now db.now.clauses lit }
         ensures watched { AreWatched trail.new self.now }
         ensures grown { Propagates trail.old trail.new }
         ensures visited { AreVisited trail.old self.now → AreVisited trail.new self.now }
-        ensures judged { IsJudgedWatch trail.new self.now number result }
+        ensures inspected { IsInspectedWatch trail.new self.now number result }
     {
         let watch = self.lists.watch(number);
         let other = self.lists.other_literal(number);
         if watch.lit != lit || trail.holds_up_to(other, self.seen) {
-            return Judged::Stays;
+            return Inspected::Stays;
         }
         replace_or_force(trail, db, ClauseId(watch.clause as u64), other, self.seen)
     }
@@ -376,7 +382,7 @@ impl Watched {
 
 // What becomes of a watch: it stays at its literal, it moves to another one, or its clause is false.
 #[derive(Clone, Copy)]
-enum Judged {
+enum Inspected {
     Stays,
     Moves(Lit),
     False,
@@ -384,7 +390,13 @@ enum Judged {
 
 // What becomes of a watch whose literal is false, where no literal up to a place makes the other one true: another literal of the
 // clause is found that these don't make false, or else the other one is made true.
-fn replace_or_force(trail: &mut Trail, db: &Clauses, id: ClauseId, other: Lit, place: u32) -> Judged
+fn replace_or_force(
+    trail: &mut Trail,
+    db: &Clauses,
+    id: ClauseId,
+    other: Lit,
+    place: u32,
+) -> Inspected
     requires grown { IsFront trail.old.clauses db.now.clauses }
     requires attached { Contains trail.old.attached id }
     requires among { IfSome (clause_numbered trail.old.clauses id) (λ clause. list_any (same_literal other) clause ≡ true) }
@@ -394,12 +406,12 @@ fn replace_or_force(trail: &mut Trail, db: &Clauses, id: ClauseId, other: Lit, p
 {
     trail.is_sound();
     match replacement(trail, db.clause(id), other, place) {
-        Some(found) => Judged::Moves(found),
+        Some(found) => Inspected::Moves(found),
         None => {
             if make_true(trail, db, id, other) {
-                Judged::Stays
+                Inspected::Stays
             } else {
-                Judged::False
+                Inspected::False
             }
         }
     }

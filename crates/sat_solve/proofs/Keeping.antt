@@ -113,7 +113,7 @@ ended_put (Ok id) assumed s t old new budget o w room c = record {
   sound = sound_roomier s.order.waiting s.vars s.spare t s.propagator o.sound w;
   put = put_closed assumed old new id c;
   found = refuted_from assumed old new id c;
-  unsettled = unattached_from s.spare t s.propagator assumed old new id o.clauses (ap (λ (x : TrailState). x.clauses) w.same) c room;
+  unfinished = unattached_from s.spare t s.propagator assumed old new id o.clauses (ap (λ (x : TrailState). x.clauses) w.same) c room;
 }
 ended_put (Err e) assumed s t old new budget o w room c = tt
 

@@ -17,7 +17,7 @@ use Rattle.sat_prop.proofs.Justifying.{justified_consistent}
 use Rattle.sat_solve.specs.declared.answer.Answer.{Answer}
 use Rattle.sat_solve.specs.declared.answer.Answer.TheVariants.{Sat, Unsat, Spent}
 use Rattle.sat_solve.specs.Searching.{IsModel, IsAnswer}
-use Rattle.sat_solve.specs.Solving.{IsServing, IsComplete, IsAnswerByTrail, IsUnsettled, AreTrailValues, IsEnded}
+use Rattle.sat_solve.specs.Solving.{IsServing, IsComplete, IsAnswerByTrail, IsUnfinished, AreTrailValues, IsEnded}
 use Rattle.sat_solve.specs.declared.search.Search.{Search}
 use Rattle.sat_solve.proofs.Learning.{all_quiet_from}
 
@@ -97,12 +97,12 @@ model_from values assumed t book vars spare ts s below e c v =
     }
 
 -- what was found is an answer
-pub answer_from : (values : List Bool) (assumed : List Lit) (t : TrailState) (book : List BookEntry) (vars spare budget : ℕ) (a : Answer) → IsTrailState t → IsServing vars spare t → HasValues vars assumed → IsUnsettled spare t book a → IsAnswerByTrail assumed vars t book budget a → (a ≡ Sat → AreTrailValues values t.literals vars) → IsAnswer values book assumed budget a
+pub answer_from : (values : List Bool) (assumed : List Lit) (t : TrailState) (book : List BookEntry) (vars spare budget : ℕ) (a : Answer) → IsTrailState t → IsServing vars spare t → HasValues vars assumed → IsUnfinished spare t book a → IsAnswerByTrail assumed vars t book budget a → (a ≡ Sat → AreTrailValues values t.literals vars) → IsAnswer values book assumed budget a
 answer_from values assumed t book vars spare budget Sat ts s below u f v = model_from values assumed t book vars spare ts s below u f (v refl)
 answer_from values assumed t book vars spare budget (Unsat number) ts s below u f v = f
 answer_from values assumed t book vars spare budget Spent ts s below u f v = f
 
 -- what was found is an answer where the values of a model are kept
 pub answers_from : {R E : Type 0} (r : Result Answer E) (values : List Bool) (assumed : List Lit) (s : Search R) (old new : List BookEntry) (budget : ℕ) → IsTrailState s.propagator → HasValues s.vars assumed → IfOk r (IsEnded assumed s old new budget) → (r ≡ Ok Sat → AreTrailValues values s.propagator.literals s.vars) → IfOk r (IsAnswer values new assumed budget)
-answers_from (Ok a) values assumed s old new budget ts below e v = answer_from values assumed s.propagator new s.vars s.spare budget a ts e.sound.serving below e.unsettled e.found (λ q. v (ap Ok q))
+answers_from (Ok a) values assumed s old new budget ts below e v = answer_from values assumed s.propagator new s.vars s.spare budget a ts e.sound.serving below e.unfinished e.found (λ q. v (ap Ok q))
 answers_from (Err error) values assumed s old new budget ts below e v = tt

@@ -80,8 +80,8 @@ phase_of phases var = slice_index_or phases var false
 
 -- a literal is taken back: it is kept how it stood, its variable is suggested again, and literals are tried from the first on, since any
 -- may be open again
-abbrev pub with_released : AdviceState → Lit → AdviceState
-with_released a l = record a { activity = with_back a.activity l.var; phases = slice_set a.phases l.var l.positive; tries = from_first a.tries.literals }
+abbrev pub with_unassigned : AdviceState → Lit → AdviceState
+with_unassigned a l = record a { activity = with_back a.activity l.var; phases = slice_set a.phases l.var l.positive; tries = from_first a.tries.literals }
 
 -- the variables of the clauses of these numbers take part in the present conflict
 abbrev pub with_hints_part : ActivityState → List Clause → List ℕ → ActivityState

@@ -244,10 +244,10 @@ pub record IsUnattached (spare : ℕ) (t : TrailState) (book : List BookEntry) (
   pub room : spare + 1 ≤ t.spare
 
 -- what is left to be done after an answer: a final clause has to be attached, and else the trail has all clauses of the book
-abbrev pub IsUnsettled : ℕ → TrailState → List BookEntry → Answer → Type 0
-IsUnsettled spare t book Sat = t.clauses ≡ clauses_of book
-IsUnsettled spare t book (Unsat number) = IsUnattached spare t book number
-IsUnsettled spare t book Spent = t.clauses ≡ clauses_of book
+abbrev pub IsUnfinished : ℕ → TrailState → List BookEntry → Answer → Type 0
+IsUnfinished spare t book Sat = t.clauses ≡ clauses_of book
+IsUnfinished spare t book (Unsat number) = IsUnattached spare t book number
+IsUnfinished spare t book Spent = t.clauses ≡ clauses_of book
 
 -- a search goes on after it put learnt entries alone
 pub record GoesOn {R : Type 0} (assumed : List Lit) (s : Search R) (old new : List BookEntry) : Type 0 where
@@ -264,4 +264,4 @@ pub record IsEnded {R : Type 0} (assumed : List Lit) (s : Search R) (old new : L
   pub sound : IsSound s
   pub put : HasPut old new answer
   pub found : IsAnswerByTrail assumed s.vars s.propagator new budget answer
-  pub unsettled : IsUnsettled s.spare s.propagator new answer
+  pub unfinished : IsUnfinished s.spare s.propagator new answer

@@ -10,7 +10,7 @@
 ghost use Rattle.std.specs.Prelude.{◌≡◌, OnOk, OnErr};
 ghost use Rattle.prop_core.specs.Derivation.{clause_numbered};
 ghost use Rattle.sat_solve.specs.Activity.{after_conflict, with_clause_part, with_option_part};
-ghost use Rattle.sat_solve.specs.Advice.{from_first, no_advice, with_advice, KeepsAdvice, next_try, after_next_try, phase_of, with_released, with_hints_part, last_hints};
+ghost use Rattle.sat_solve.specs.Advice.{from_first, no_advice, with_advice, KeepsAdvice, next_try, after_next_try, phase_of, with_unassigned, with_hints_part, last_hints};
 ghost use Rattle.sat_solve.specs.Heap.{held_of, Takes};
 ghost use Rattle.sat_solve.specs.LevelCount.{AreLevelsOf, marked_of};
 ghost use Rattle.sat_solve.specs.Restarts.{with_learnt_clause, is_due, after_asking};
@@ -115,8 +115,8 @@ impl Advice {
     }
 
     // Keeps how a literal stood that is taken back, and suggests its variable again.
-    pub fn release(&mut self, lit: Lit, ranks: &[u64])
-        ensures { self.new ≡ with_released self.old lit }
+    pub fn unassign(&mut self, lit: Lit, ranks: &[u64])
+        ensures { self.new ≡ with_unassigned self.old lit }
     {
         if let Some(phase) = self.phases.get_mut(lit.var as usize) {
             *phase = lit.positive;
@@ -125,8 +125,8 @@ impl Advice {
         self.tries.begin_anew();
     }
 
-    // Takes note of a clause that was learnt, where the trail still stands as at the conflict.
-    pub fn note(&mut self, trail: &Trail, clauses: &Clauses, learnt: &Learnt, ranks: &[u64])
+    // Updates activities and means by a clause that was learnt, where the trail still stands as at the conflict.
+    pub fn update(&mut self, trail: &Trail, clauses: &Clauses, learnt: &Learnt, ranks: &[u64])
         ensures phases { self.new.phases ≡ self.old.phases }
         ensures activity { self.new.activity ≡ after_conflict (with_hints_part self.old.activity clauses.now.clauses (last_hints learnt.now.hints learnt.now.from_conflict)) }
         ensures levels { AreLevelsOf trail.now learnt.now.clause self.new.levels }
@@ -138,7 +138,7 @@ impl Advice {
         bump_each(&mut self.activity, clauses, &hints[first..], ranks);
         self.activity.end_conflict();
         let levels = self.levels.count(trail, learnt.clause.as_slice());
-        self.restarts.note(levels);
+        self.restarts.update(levels);
     }
 
     // Says whether the search is to begin anew.

@@ -27,7 +27,7 @@ impl<R: Fn(u32) -> u64> Search<R> {
         ensures taken { self.new.taken ≡ 0 }
     {
         trail_state(&self.propagator);
-        release_above(
+        unassign_above(
             self.propagator.trail(),
             &mut self.order,
             &mut self.advice,
@@ -52,7 +52,7 @@ impl<R: Fn(u32) -> u64> Search<R> {
 }
 
 // Lets the variables above a level wait, the last first.
-fn release_above<R: Fn(u32) -> u64>(
+fn unassign_above<R: Fn(u32) -> u64>(
     trail: &Trail,
     order: &mut Order<R>,
     advice: &mut Advice,
@@ -66,7 +66,7 @@ fn release_above<R: Fn(u32) -> u64>(
     let mut place = trail.len();
     'down: while stands_above(trail, place, level) {
         place -= 1;
-        release(trail, order, advice, place);
+        unassign(trail, order, advice, place);
     }
 }
 
@@ -84,7 +84,7 @@ fn stands_above(trail: &Trail, count: u32, level: u32) -> bool
 }
 
 // Lets the variable at a place wait, and keeps how it stood.
-fn release<R: Fn(u32) -> u64>(trail: &Trail, order: &mut Order<R>, advice: &mut Advice, place: u32)
+fn unassign<R: Fn(u32) -> u64>(trail: &Trail, order: &mut Order<R>, advice: &mut Advice, place: u32)
     requires place { place < length trail.now.literals }
     requires known { HasValues (length order.old.waiting) trail.now.literals }
     ensures kept { KeepsRanks order.old order.new }
@@ -93,7 +93,7 @@ fn release<R: Fn(u32) -> u64>(trail: &Trail, order: &mut Order<R>, advice: &mut 
 {
     let lit = trail.literal(place);
     order.put_back(lit.var);
-    advice.release(lit, order.ranks());
+    advice.unassign(lit, order.ranks());
 }
 
 // The level to go on from after a conflict: the present one, or at times that of the assumptions.

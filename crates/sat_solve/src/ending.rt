@@ -125,7 +125,7 @@ pub fn trail_state(propagator: &Propagator)
 
 impl<R: Fn(u32) -> u64> Search<R> {
     // Puts the final clause of a conflict that depends on assumptions alone.
-    pub fn refute(
+    pub fn fail_by_conflict(
         &mut self,
         book: &mut Ledger,
         conflict: ClauseId,
@@ -148,7 +148,7 @@ impl<R: Fn(u32) -> u64> Search<R> {
     }
 
     // Puts the final clause of an assumption that is false.
-    pub fn dismiss(
+    pub fn fail_assumption(
         &mut self,
         book: &mut Ledger,
         lit: Lit,

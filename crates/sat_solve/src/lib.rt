@@ -13,6 +13,7 @@ mod answer;
 mod backtracking;
 mod deciding;
 mod ending;
+mod finishing;
 mod first_tries;
 mod heap;
 mod laws;
@@ -20,7 +21,6 @@ mod levels;
 mod marks;
 mod restarts;
 mod search;
-mod settling;
 mod solver;
 
 pub use answer::Answer;

@@ -73,8 +73,8 @@ impl Restarts {
         self.clauses
     }
 
-    // Takes note of a clause that was learnt, whose literals are of so many levels.
-    pub fn note(&mut self, levels: u64)
+    // Updates the means by a clause that was learnt, whose literals are of so many levels.
+    pub fn update(&mut self, levels: u64)
         ensures { self.new ≡ with_learnt_clause self.old levels }
     {
         let parts = levels.min(MOST_LEVELS) * LEVEL;

@@ -99,7 +99,7 @@ impl<R: Fn(u32) -> u64> Search<R> {
         trail_state(&self.propagator);
         match further_decision(self.propagator.trail(), assumptions) {
             None => {
-                let last = self.refute(book, conflict, assumptions)?;
+                let last = self.fail_by_conflict(book, conflict, assumptions)?;
                 Ok(Some(Answer::Unsat(last)))
             }
             Some(_) if *budget == 0 => Ok(Some(Answer::Spent)),
@@ -135,7 +135,7 @@ impl<R: Fn(u32) -> u64> Search<R> {
             .analyse(self.propagator.trail(), book.clauses(), conflict)?;
         let id = book.put_learnt(learnt.clause.as_slice(), learnt.hints.as_slice())?;
         *budget -= 1;
-        note(
+        update(
             self.propagator.trail(),
             &mut self.advice,
             book,
@@ -162,7 +162,7 @@ impl<R: Fn(u32) -> u64> Search<R> {
         let trail = self.propagator.trail();
         match next_assumption(trail, assumptions, &mut self.taken) {
             Some(lit) if makes_true(trail, lit.negated()) => {
-                let last = self.dismiss(book, lit, assumptions)?;
+                let last = self.fail_assumption(book, lit, assumptions)?;
                 Ok(Some(Answer::Unsat(last)))
             }
             Some(lit) => {
@@ -180,7 +180,7 @@ impl<R: Fn(u32) -> u64> Search<R> {
     }
 }
 
-// Takes note of a clause that was learnt.
-fn note(trail: &Trail, advice: &mut Advice, book: &Ledger, learnt: &Learnt, ranks: &[u64]) {
-    advice.note(trail, book.clauses(), learnt, ranks);
+// Updates the advice by a clause that was learnt.
+fn update(trail: &Trail, advice: &mut Advice, book: &Ledger, learnt: &Learnt, ranks: &[u64]) {
+    advice.update(trail, book.clauses(), learnt, ranks);
 }

@@ -137,7 +137,7 @@ impl<R: Fn(u32) -> u64> Solver<R> {
         trail_state(&self.search.propagator);
         let found = self.search.run(book, assumptions, budget);
         trail_state(&self.search.propagator);
-        self.search.settle(book, &found, &mut self.assignment);
+        self.search.finish(book, &found, &mut self.assignment);
         self.clauses = book.clauses().len();
         found
     }

@@ -6,7 +6,7 @@ use Rattle.prop_core.proofs.Forcing.{forced_unit}
 use Rattle.sat_prop.specs.Quiet.{stands}
 use Rattle.sat_prop.proofs.Justifying.{justified_consistent}
 use Rattle.sat_prop.proofs.Seeing.{value_denies, value_lacks}
-use Rattle.sat_prop.proofs.Judging.{found, forced_false}
+use Rattle.sat_prop.proofs.Inspecting.{found, forced_false}
 use Rattle.sat_prop.proofs.watched.make_true.Goals as goal
 
 pub force-requires-clause-forced : goal.force-requires-clause-forced

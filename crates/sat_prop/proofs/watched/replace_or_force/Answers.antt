@@ -6,7 +6,7 @@ use Rattle.prop_core.specs.Clauses.{Clause, same_literal}
 use Rattle.prop_core.specs.Trail.{is_forced_by}
 use Rattle.sat_prop.specs.Watching.{IsReplacement}
 use Rattle.sat_prop.proofs.Settling.{forced_whole}
-use Rattle.sat_prop.proofs.Judging.{found}
+use Rattle.sat_prop.proofs.Inspecting.{found}
 use Rattle.sat_prop.proofs.watched.replace_or_force.Goals as goal
 
 pub clause-requires-clause-from_one : goal.clause-requires-clause-from_one

@@ -2,7 +2,7 @@ use Rattle.std.proofs.Common.{◌↔◌, ◌≤◌, ℕ, sym, subst, length, IsT
 use Rattle.sat_prop.specs.Watches.{watch_at}
 use Rattle.sat_prop.specs.Watching.{WatchedState, AreWatched, IsSubsumed}
 use Rattle.sat_prop.specs.View.{watched_view}
-use Rattle.sat_prop.proofs.Judging.{found}
+use Rattle.sat_prop.proofs.Inspecting.{found}
 use Rattle.sat_prop.proofs.Subsuming.{subsumed_read}
 use Rattle.sat_prop.proofs.watched.Watched.is_subsumed.Goals as goal
 

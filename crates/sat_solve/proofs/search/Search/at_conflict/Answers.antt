@@ -14,7 +14,7 @@ returns-in-Some-clause-ended g c =
         nothing = let z = c.if-budget-eq0.true in z;
         clashes = clash_from c.args.assumptions.now s.vars s.propagator c.args.book.now.entries c.args.conflict c.in-Some.field-0 c.trail_state.ensures.state w.over.sound.serving.joined w.under w.over.clauses c.requires.conflict (rw c.trail.ensures at c.in-Some.ensures.some);
       };
-      unsettled = w.over.clauses;
+      unfinished = w.over.clauses;
     }
 
 pub returns-in_ok-learn-in-Some-2-clause-goes_on : goal.returns-in_ok-learn-in-Some-2-clause-goes_on

@@ -6,11 +6,11 @@ use Rattle.sat_solve.proofs.Standing.{assumed_small}
 use Rattle.sat_solve.proofs.Stepping.{under_way_decided, longer_decided}
 use Rattle.sat_solve.proofs.search.Search.at_rest.Goals as goal
 
-pub dismiss-requires-clause-under_way : goal.dismiss-requires-clause-under_way
-dismiss-requires-clause-under_way g c = record { over = c.requires.under_way.over; under = c.requires.under_way.under; taken_first = rw c.trail-trail.ensures at c.next_assumption.ensures.taken }
+pub fail_assumption-requires-clause-under_way : goal.fail_assumption-requires-clause-under_way
+fail_assumption-requires-clause-under_way g c = record { over = c.requires.under_way.over; under = c.requires.under_way.under; taken_first = rw c.trail-trail.ensures at c.next_assumption.ensures.taken }
 
-pub dismiss-requires-clause-false_now : goal.dismiss-requires-clause-false_now
-dismiss-requires-clause-false_now g c = ap (is_true c.args.self.now.propagator.literals) (sym c.negated.ensures) ∙ sym (rw c.trail-trail.ensures at c.makes_true.ensures) ∙ c.if-makes_true.true
+pub fail_assumption-requires-clause-false_now : goal.fail_assumption-requires-clause-false_now
+fail_assumption-requires-clause-false_now g c = ap (is_true c.args.self.now.propagator.literals) (sym c.negated.ensures) ∙ sym (rw c.trail-trail.ensures at c.makes_true.ensures) ∙ c.if-makes_true.true
 
 pub decide-requires-clause-known : goal.decide-requires-clause-known
 decide-requires-clause-known g c =

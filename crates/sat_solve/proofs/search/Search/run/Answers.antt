@@ -28,7 +28,7 @@ returns-in-Some-clause-ended g c =
       sound = e.sound;
       put = put_after c.args.book.now.entries c.more.book.entries c.step.new.book.entries c.in-Some.answer c.more.invariant.learnt e.put;
       found = e.found;
-      unsettled = e.unsettled;
+      unfinished = e.unfinished;
     }
 
 pub more-preserved : goal.more-preserved

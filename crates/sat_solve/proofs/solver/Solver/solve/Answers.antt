@@ -16,5 +16,5 @@ pub returns-clause-answer : goal.returns-clause-answer
 returns-clause-answer g c =
     let t = c.run-found.new.self in
     let same : c.args.self.now.vars ≡ t.vars = sym (c.run-found.ensures.kept.vars ∙ ap (λ (x : SolverState _). x.vars) c.self.view_is) in
-    answers_from c.run-found.result c.settle.new.assignment c.args.assumptions.now t c.args.book.now.entries c.run-found.new.book.entries c.run-found.new.budget c.trail_state-2.ensures.state
-    (subst (λ (n : ℕ). HasValues n c.args.assumptions.now) same c.requires.known) c.run-found.ensures.ended c.settle.ensures.values
+    answers_from c.run-found.result c.finish.new.assignment c.args.assumptions.now t c.args.book.now.entries c.run-found.new.book.entries c.run-found.new.budget c.trail_state-2.ensures.state
+    (subst (λ (n : ℕ). HasValues n c.args.assumptions.now) same c.requires.known) c.run-found.ensures.ended c.finish.ensures.values
