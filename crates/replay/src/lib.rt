@@ -7,21 +7,21 @@
 //! what an explanation is, and `specs/Replayed.antt` what each answer means.
 #![tactic(auto)]
 
+mod laws;
 mod matching;
 mod placing;
 mod replaying;
 mod run;
 mod run_text;
 mod state_set;
-mod theorems;
 mod tracing;
 mod width;
 
-pub use replaying::{Replayed, replay};
-pub use run::{Run, RunStep};
-pub use run_text::{RunFault, RunRefusal, read_run};
-pub use theorems::{
+pub use laws::{
     absent_excludes, accepted_explains, explains_decides, least_is_one, many_is_above,
     replies_are_unique, traces_are_unique,
 };
+pub use replaying::{Replayed, replay};
+pub use run::{Run, RunStep};
+pub use run_text::{RunFault, RunRefusal, read_run};
 pub use tracing::{Traced, trace};

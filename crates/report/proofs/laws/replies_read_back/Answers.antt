@@ -1,5 +1,5 @@
 use Rattle.report.proofs.ReadsBack as lemma
-use Rattle.report.proofs.theorems.replies_read_back.Goals as goal
+use Rattle.report.proofs.laws.replies_read_back.Goals as goal
 
 pub returns : goal.returns
 returns c = lemma.replies_read_back

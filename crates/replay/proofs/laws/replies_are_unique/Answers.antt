@@ -1,5 +1,5 @@
 use Rattle.replay.proofs.AcceptLemmas as lemma
-use Rattle.replay.proofs.theorems.replies_are_unique.Goals as goal
+use Rattle.replay.proofs.laws.replies_are_unique.Goals as goal
 
 pub returns : goal.returns
 returns c = lemma.replies_are_unique

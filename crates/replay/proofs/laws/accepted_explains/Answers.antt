@@ -1,5 +1,5 @@
 use Rattle.replay.proofs.AcceptLemmas as lemma
-use Rattle.replay.proofs.theorems.accepted_explains.Goals as goal
+use Rattle.replay.proofs.laws.accepted_explains.Goals as goal
 
 pub returns : goal.returns
 returns c = lemma.accepted_explains

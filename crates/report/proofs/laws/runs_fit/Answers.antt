@@ -1,5 +1,5 @@
 use Rattle.report.proofs.PrintedLengths as lemma
-use Rattle.report.proofs.theorems.runs_fit.Goals as goal
+use Rattle.report.proofs.laws.runs_fit.Goals as goal
 
 pub returns : goal.returns
 returns c = lemma.runs_fit

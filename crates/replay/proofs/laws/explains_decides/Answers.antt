@@ -1,5 +1,5 @@
 use Rattle.replay.proofs.DecideLemmas as lemma
-use Rattle.replay.proofs.theorems.explains_decides.Goals as goal
+use Rattle.replay.proofs.laws.explains_decides.Goals as goal
 
 pub returns : goal.returns
 returns c = lemma.explains_decides
