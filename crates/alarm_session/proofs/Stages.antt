@@ -43,7 +43,7 @@ module _ {R : Type 0} (budget : ℕ) (old new : Kept R) (keeps : KeepsQuestion o
       let first = built_of old.parts old.book.entries in
       let steps = ap (λ (s : CodedSteps). s.steps) keeps.step ∙ time in
       record {
-        names = meanings_of_parts new.parts;
+        meanings = meanings_of_parts new.parts;
         answered = answered_roomless (meanings_of_parts new.parts) first net old.log n budget old.book.entries new.book.entries found
             (subst (λ k. IsAnswered (meanings_of_parts new.parts) first net old.log k budget old.book.entries new.book.entries found) steps answered);
         valid = valid;

@@ -53,7 +53,7 @@ module _ {R : Type 0} (net : Net) (n : ℕ) (kept : Kept R) (is : IsKept net n k
 
   pub book_poses : IsNetwork net → IsValidLog kept.log → (guards : List Lit) → ReadsAs (read_meanings kept.parts.code.coded) guards (guard_literals kept.parts.code.coded.net kept.parts.code.coded.log) → Poses net kept.log n kept.book.entries
   book_poses network valid guards read = record {
-    names = meanings_of_parts kept.parts;
+    meanings = meanings_of_parts kept.parts;
     assumed = guards;
     posed = subst (λ k. IsPosed (meanings_of_parts kept.parts) (axioms_of kept.book.entries) guards net kept.log k None) is.of_log.time
         (subst (λ (m : Net). IsPosed (meanings_of_parts kept.parts) (axioms_of kept.book.entries) guards m kept.log kept.parts.step.steps None) is.of_log.belong.of_steps

@@ -110,17 +110,17 @@ pub record KeepsLog (budget : ℕ) (old new : Stage) : Type 0 where
 
 -- The answer of the log so far, with what shows it in the valid book: entries that were put since the question was opened, as it was built so far.
 pub record IsToldBy (net : Net) (n budget : ℕ) (old new : Stage) (found : Found) : Type 0 where
-  pub names : List (ℕ × Meaning)
-  pub answered : IsAnswered names old.built net old.log n budget old.book new.book found
+  pub meanings : List (ℕ × Meaning)
+  pub answered : IsAnswered meanings old.built net old.log n budget old.book new.book found
   pub valid : IsValidBook new.book
 
 -- ---- what is always so of the book
 
 -- By some meanings, and with some assumptions, the axioms ask what explains the log: they are faithful and drawn.
 pub record Poses (net : Net) (log : Log) (n : ℕ) (book : List BookEntry) : Type 0 where
-  pub names : List (ℕ × Meaning)
+  pub meanings : List (ℕ × Meaning)
   pub assumed : List Lit
-  pub posed : IsPosed names (axioms_of book) assumed net log n None
+  pub posed : IsPosed meanings (axioms_of book) assumed net log n None
 
 -- The book is lean, so that no question was written again: at most 12 axioms for each unit of the size, of the sizes of the components, and for each alarm and each pair, and 512.
 abbrev pub IsLean : List BookEntry → Net → Log → ℕ → Type 0

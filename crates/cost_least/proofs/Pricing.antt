@@ -160,12 +160,12 @@ pub costs_are_told : CostsAreTold
 costs_are_told net cost log n names scale whole assumed network valid asks = record {
   unbounded = record {
     tells = all_told net cost log n names scale whole assumed network valid asks;
-    names = cost_names names scale;
+    meanings = cost_names names scale;
     drawn = drawn_unbounded net cost log n names scale whole assumed asks;
   };
   bounded = λ b few some. record {
     tells = within_told net cost log n names scale whole assumed network valid asks b few some;
-    names = cost_names names scale;
+    meanings = cost_names names scale;
     drawn = drawn_bounded net cost log n names scale whole assumed asks b few some;
   };
 }

@@ -116,8 +116,8 @@ module _ (net : Net) (a b : ℕ → ℕ) (agree : (e : ℕ) → is_fault net e �
     same_told : (bound : Option ℕ) (clauses : List Clause) (assumed : List Lit) → PoseCostQuestion first bound clauses assumed → PoseCostQuestion second bound clauses assumed
     same_told bound clauses assumed h = record {
       tells = same_property_told (ExplainsAt net a log n bound) (ExplainsAt net b log n bound) clauses assumed (same_within bound) h.tells;
-      names = h.names;
-      drawn = subst (λ (inputs : List (Meaning × ℕ)). AreDrawnBy h.names clauses assumed (IsCostClause net log n inputs (1 + MOST_COST)) (cost_literals net log (length inputs) bound)) same_named h.drawn;
+      meanings = h.meanings;
+      drawn = subst (λ (inputs : List (Meaning × ℕ)). AreDrawnBy h.meanings clauses assumed (IsCostClause net log n inputs (1 + MOST_COST)) (cost_literals net log (length inputs) bound)) same_named h.drawn;
     }
 
     same_evidence : (bound : Option ℕ) (axioms : List Clause) (since : List BookEntry) → IsCostEvidence first bound axioms since → IsCostEvidence second bound axioms since

@@ -78,8 +78,8 @@ cost_limit scale (Some b) = negative (place_variable scale (scale.inputs - 1) b)
 -- Clauses and assumptions pose the question what explains the log with a total of at most the bound: they tell it, and by some meanings each clause is one of a question or of the counter that weighs its faults by what they cost, and what is assumed are, as a set, the guards and that the faults weigh no more than the bound.
 pub record PosesCosts (net : Net) (cost : ℕ → ℕ) (log : Log) (n : ℕ) (bound : Option ℕ) (clauses : List Clause) (assumed : List Lit) : Type 0 where
   pub tells : Tells clauses assumed (ExplainsAt net cost log n bound)
-  pub names : List (ℕ × CostMeaning)
-  pub drawn : AreDrawnBy names clauses assumed (IsCostClause net log n (named_weights net cost log n) (1 + MOST_COST)) (cost_literals net log (length (named_weights net cost log n)) bound)
+  pub meanings : List (ℕ × CostMeaning)
+  pub drawn : AreDrawnBy meanings clauses assumed (IsCostClause net log n (named_weights net cost log n) (1 + MOST_COST)) (cost_literals net log (length (named_weights net cost log n)) bound)
 
 -- they ask what explains, and, where the scale has an input, what explains with a total of at most b
 pub record TellsCosts (net : Net) (cost : ℕ → ℕ) (log : Log) (n : ℕ) (scale : Scale) (whole : List Clause) (assumed : List Lit) : Type 0 where

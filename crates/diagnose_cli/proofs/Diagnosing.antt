@@ -32,7 +32,7 @@ module _ (net : Net) (log : Log) (n budget : ℕ) (book : List BookEntry) where
   found_decided NotExplained holds enough is = cc
   found_decided (ManyFaults best) holds enough is = cc
   found_decided (NotDecided lo best) holds enough is =
-      let small = undecided_is_small holds.names (question_built net log n 0) net log n budget lo best (map axiomatic (question_axioms net log n 0)) book holds.answered in
+      let small = undecided_is_small holds.meanings (question_built net log n 0) net log n budget lo best (map axiomatic (question_axioms net log n 0)) book holds.answered in
       omega (arith, small, enough)
 
   -- the reply that tells what is found

@@ -38,7 +38,7 @@ module _ (net : Net) (n budget : ℕ) (old : Stage) (row : Row) (new : Stage) wh
   pub row_known : (told : Told) → IsRowTold net n budget old row new told → TellsKnown net told
   row_known Made is = tt
   row_known (Refused refusal) is = tt
-  row_known (Answered found) is = let answered = is.tells.told.answered in known is.tells.told.names _ answered.since net old.log n budget found answered.found
+  row_known (Answered found) is = let answered = is.tells.told.answered in known is.tells.told.meanings _ answered.since net old.log n budget found answered.found
 
   row_replays : (told : Told) → IsNetwork net → IsDraft net → IsLog new.log → n ≤ 1000 → IsRowTold net n budget old row new told → TellsReplaying net old.log n told
   row_replays Made network whole log_whole few told = tt
@@ -46,7 +46,7 @@ module _ (net : Net) (n budget : ℕ) (old : Stage) (row : Row) (new : Stage) wh
   row_replays (Answered found) network whole log_whole few told =
       let answered = told.tells.told.answered in
       let same : new.log ≡ old.log = told.log ∙ ap (after_row net n old.log) told.tells.question in
-      run_replays told.tells.told.names _ answered.since net old.log n budget found n network whole (subst IsLog same log_whole) few refl answered.found
+      run_replays told.tells.told.meanings _ answered.since net old.log n budget found n network whole (subst IsLog same log_whole) few refl answered.found
 
   pub carried : (told : Told) → IsNetwork net → IsDraft net → IsLog new.log → n ≤ 1000 → IsRowTold net n budget old row new told → IsCarriedOut net n budget old row new told
   carried told network whole log_whole few holds = record { holds = holds; replays = row_replays told network whole log_whole few holds }
@@ -74,7 +74,7 @@ module _ (net : Net) (n budget : ℕ) where
   row_decided : (old : Stage) (row : Row) (new : Stage) (told : Told) → IsRowTold net n budget old row new told → TellsDecided net old.log n budget told
   row_decided old row new Made is = tt
   row_decided old row new (Refused refusal) is = tt
-  row_decided old row new (Answered found) is = found_decided found is.tells.told.names old.built old.log old.book new.book is.tells.told.answered
+  row_decided old row new (Answered found) is = found_decided found is.tells.told.meanings old.built old.log old.book new.book is.tells.told.answered
 
   all_decided : (old : Stage) (rows : List Row) (new : Stage) (told : List Told) → AreRowsTold net n budget old rows new told → AreDecided net n budget old.log rows told
   all_decided old [] new told are = tt

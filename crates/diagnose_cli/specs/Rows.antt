@@ -143,15 +143,15 @@ pub record TellsMany (o : Outcome) (net : Net) (alarms : Log) (n : ℕ) : Type 0
   pub many : IsMany net alarms n
   pub put : Took o.before o.now (text_of_found net n (Many best))
 
--- As many clauses were learnt as the budget allows, each of them fresh, and there is a further conflict: without a bound if no run is printed, and else within lo. By the names of the
+-- As many clauses were learnt as the budget allows, each of them fresh, and there is a further conflict: without a bound if no run is printed, and else within lo. By the meanings of the
 -- variables, which are no more than network, log and n allow, the book poses that question. All that explains the log has at least lo faults, and a run that is printed explains it with more.
 pub record TellsUndecided (o : Outcome) (net : Net) (alarms : Log) (n budget : ℕ) : Type 0 where
   pub lo : ℕ
   pub best : Option Best
   pub spent : AreFresh [] o.book budget
-  pub names : List (ℕ × Meaning)
-  pub few : length names ≤ variable_bound net alarms n
-  pub conflict : HasConflict names o.book net alarms n (asked_last lo best)
+  pub meanings : List (ℕ × Meaning)
+  pub few : length meanings ≤ variable_bound net alarms n
+  pub conflict : HasConflict meanings o.book net alarms n (asked_last lo best)
   pub above : NeedsFaults net alarms n lo
   pub known : IfSome best (λ run. IsExplanation net alarms n run × (lo < run.faults))
   pub put : Took o.before o.now (text_of_found net n (Undecided lo best))

@@ -131,12 +131,12 @@ pub events_are_posed : EventsArePosed
 events_are_posed net log n k names grid made whole assumed network valid beside = record {
   without_event = λ e known. record {
     tells = without_told net log n k names grid made whole assumed network valid beside e known;
-    names = verdict_meanings names made;
+    meanings = verdict_meanings names made;
     drawn = drawn_by net log n k names grid made whole assumed beside e without (no_step_literals grid e) (none_reads net log n k names grid made whole assumed beside e known);
   };
   with_event = λ var e in'. record {
     tells = with_told net log n k names grid made whole assumed network valid beside var e in';
-    names = verdict_meanings names made;
+    meanings = verdict_meanings names made;
     drawn = drawn_by net log n k names grid made whole assumed beside e (with_event var) (positive var ∷ [])
         (reads_one (verdict_meanings names made) (positive var) (holds (occurs e var)) (record { named = of_made net log n k names grid made whole assumed beside (var, e) in'; sign = refl }));
   };

@@ -58,8 +58,8 @@ verdict_literals net log n k e question = map in_question (assumption_literals n
 -- Clauses and assumptions ask this: they tell it, and by some meanings each clause is one of a question or gives a fault event in some step, and what is assumed are, as a set, the guards, the bound and what is assumed of the event.
 pub record IsPosedOf (clauses : List Clause) (assumed : List Lit) (net : Net) (log : Log) (n k e : ℕ) (question : Question) : Type 0 where
   pub tells : Tells clauses assumed (asked_for net log n k e question)
-  pub names : List (ℕ × VerdictMeaning)
-  pub drawn : AreDrawnBy names clauses assumed (IsVerdictClause net log n) (verdict_literals net log n k e question)
+  pub meanings : List (ℕ × VerdictMeaning)
+  pub drawn : AreDrawnBy meanings clauses assumed (IsVerdictClause net log n) (verdict_literals net log n k e question)
 
 -- ---- by variable
 

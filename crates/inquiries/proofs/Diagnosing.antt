@@ -49,7 +49,7 @@ question_begins net log n parts book none built = built.determined ∙ ap (λ (c
 pub diagnosed_by : {R : Type 0} (names : List (ℕ × Meaning)) (first : BuiltQuestion) (net : Net) (log : Log) (n steps budget : ℕ) (parts : Parts R) (built new : List BookEntry) (found : Found) → first ≡ question_built net log n 0 → built ≡ map axiomatic (question_axioms net log n 0) → IsBuilt net log n parts new → steps ≡ n
     → IsAnswered names first net log steps budget built new found → IsValidBook new → IsDiagnosed net log n budget new found
 diagnosed_by names first net log n steps budget parts built new found is_first begun determined same answered valid = record {
-  names = names;
+  meanings = names;
   answered = subst (λ (q : BuiltQuestion). IsAnswered names q net log n budget (map axiomatic (question_axioms net log n 0)) new found) is_first
       (subst (λ (o : List BookEntry). IsAnswered names first net log n budget o new found) begun (subst (λ (k : ℕ). IsAnswered names first net log k budget built new found) same answered));
   columns = length parts.counter.columns;

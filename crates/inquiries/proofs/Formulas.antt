@@ -184,7 +184,7 @@ module _ {R : Type 0} (may : R → ℕ → Type 0) (gives : R → ℕ → ℕ �
     known = known;
     exact = exact;
     alone = axioms_alone book whole ∙ ap (λ (q : BuiltQuestion). map axiomatic q.axioms) question_is;
-    names = meanings_of_parts parts;
+    meanings = meanings_of_parts parts;
     posed = subst (λ (lits : List Lit). IsPosed (meanings_of_parts parts) (axioms_of book) lits net log n bound) assumed_is posed;
   }
     where

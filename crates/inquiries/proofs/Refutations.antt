@@ -335,7 +335,7 @@ module _ {R : Type 0} (may : R → ℕ → Type 0) (gives : R → ℕ → ℕ �
     is_refuted last steps found built steps_are verified = record {
       last = last;
       ends = subst (λ (xs : List Lit). EndsIn book xs last) is (ends_in last found);
-      names = names;
+      meanings = names;
       posed = subst (λ (xs : List Lit). IsPosed names (axioms_of (front_to last book)) xs net log parts.step.steps bound) is
           (subst (λ (cs : List Clause). IsPosed names cs assumed net log parts.step.steps bound) (sym front)
           (posed_alike names (first ++ axioms_of refuted.earlier) (axioms_of book) e.evidence.assumed assumed net log parts.step.steps bound e.evidence.posed_before posed));

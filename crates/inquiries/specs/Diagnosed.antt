@@ -10,8 +10,8 @@ use Rattle.run_decode.specs.QuestionAxioms.{question_axioms, question_built}
 
 -- The book is valid. It has the axioms of the question first, and then what shows the answer. All its axioms are the list that network, log, n and a number of columns determine.
 pub record IsDiagnosed (net : Net) (log : Log) (n budget : ℕ) (book : List BookEntry) (found : Found) : Type 0 where
-  pub names : List (ℕ × Meaning)
-  pub answered : IsAnswered names (question_built net log n 0) net log n budget (map axiomatic (question_axioms net log n 0)) book found
+  pub meanings : List (ℕ × Meaning)
+  pub answered : IsAnswered meanings (question_built net log n 0) net log n budget (map axiomatic (question_axioms net log n 0)) book found
   pub columns : ℕ
   pub axioms : axioms_of book ≡ question_axioms net log n columns
   pub valid : IsValidBook book

@@ -50,5 +50,5 @@ pub record IsFormulaOf (net : Net) (log : Log) (n : ℕ) (bound : Option ℕ) (b
   pub known : All (HasValues f.vars) f.clauses
   pub exact : IsSatisfiable f.clauses ↔ IsExplainedWithin net log n bound
   pub alone : book ≡ map axiomatic (question_within net log n bound).axioms
-  pub names : List (ℕ × Meaning)
-  pub posed : IsPosed names (axioms_of book) (question_assumed net log n bound) net log n bound
+  pub meanings : List (ℕ × Meaning)
+  pub posed : IsPosed meanings (axioms_of book) (question_assumed net log n bound) net log n bound

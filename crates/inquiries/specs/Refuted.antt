@@ -28,8 +28,8 @@ use Rattle.inquiries.specs.Formula.{counted_bound, question_assumed, question_fo
 pub record IsVerifiedRefutation (net : Net) (log : Log) (n : ℕ) (bound : Option ℕ) (book : List BookEntry) (steps : List ProofStep) : Type 0 where
   pub last : ℕ
   pub ends : EndsIn book (question_assumed net log n bound) last
-  pub names : List (ℕ × Meaning)
-  pub posed : IsPosed names (axioms_of (front_to last book)) (question_assumed net log n bound) net log n bound
+  pub meanings : List (ℕ × Meaning)
+  pub posed : IsPosed meanings (axioms_of (front_to last book)) (question_assumed net log n bound) net log n bound
   pub listed : axioms_of (front_to last book) ≡ (question_within net log n bound).axioms
   pub steps_are : steps ≡ refutation_steps (front_to last book) (question_assumed net log n bound)
   pub verified : check_proof (question_formula net log n bound).clauses steps ≡ Verified

@@ -85,7 +85,7 @@ module _ (steps : CodedSteps) (code : CodedLog) (counter : CounterState) (vars :
 
       of_others : Contains (log_meanings code) entry ⊎ Contains (counter_meanings counter) entry → entry.0 < vars
       of_others (inl here) =
-          let low = all_at (λ (e : ℕ × Meaning). e.0 < code.vars) (log_meanings code) room.together.beside.logged.names.below entry here in
+          let low = all_at (λ (e : ℕ × Meaning). e.0 < code.vars) (log_meanings code) room.together.beside.logged.meanings.below entry here in
           let above = room.above in
           omega (arith, low, above)
       of_others (inr here) = of_counter here

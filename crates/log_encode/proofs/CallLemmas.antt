@@ -229,7 +229,7 @@ matched_is code i alarm value e step coded is known from_one within = by (link_o
         let named : meaning_of (log_meanings code) (match_variable (variables_of code.grid.steps alarm) link (step - 1)) ≡ Some (matches i e step) =
         subst (λ p. meaning_of (log_meanings code) (match_variable (variables_of code.grid.steps alarm) p (step - 1)) ≡ Some (matches i e step)) (sym place)
         (subst (λ t. meaning_of (log_meanings code) (match_variable (variables_of code.grid.steps alarm) found.0 (step - 1)) ≡ Some (matches i e t)) step_is (is.matching found.0 e (step - 1) there (omega arith))) in
-        let valued = values_match (log_meanings code) coded.names.once value (match_variable (variables_of code.grid.steps alarm) link (step - 1)) (matches i e step) named in
+        let valued = values_match (log_meanings code) coded.meanings.once value (match_variable (variables_of code.grid.steps alarm) link (step - 1)) (matches i e step) named in
         rw passes valued
 
 -- the first of the numbers that pass both tests
@@ -356,7 +356,7 @@ false_is code i alarm value coded is = by alarm.doubtful refl
     by : (b : Bool) → alarm.doubtful ≡ b → (alarm.doubtful && value (dropped_variable (variables_of code.grid.steps alarm))) ≡ is_false_alarm code.log (value_by (log_meanings code) value) i
     by true e =
         let mark : is_doubtful code.log i ≡ true = is.mark ∙ e in
-        let valued = values_match (log_meanings code) coded.names.once value (dropped_variable (variables_of code.grid.steps alarm)) (dropped i) (is.being_false e) in
+        let valued = values_match (log_meanings code) coded.meanings.once value (dropped_variable (variables_of code.grid.steps alarm)) (dropped i) (is.being_false e) in
         rw (e, mark) valued
     by false e = let mark : is_doubtful code.log i ≡ false = is.mark ∙ e in rw (e, mark) refl
 
@@ -370,7 +370,7 @@ first_is_step code i alarm value step vars coded is same = subst (λ (v : AlarmV
     own = variables_of code.grid.steps alarm
 
     valued : (t : ℕ) → t ≤ code.grid.steps → value_by (log_meanings code) value (done i t) ≡ value (done_variable own t)
-    valued t h = sym (values_match (log_meanings code) coded.names.once value (done_variable own t) (done i t) (is.being_done t h))
+    valued t h = sym (values_match (log_meanings code) coded.meanings.once value (done_variable own t) (done i t) (is.being_done t h))
 
     shown : step ≤ own.steps → ((t : ℕ) → t < step → value (done_variable own t) ≡ false) → (step < own.steps → value (done_variable own step) ≡ true) →
         value_by (log_meanings code) value (done i code.grid.steps) ≡ true → IsStepOfAlarm code.grid.steps (value_by (log_meanings code) value) i step

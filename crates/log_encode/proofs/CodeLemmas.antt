@@ -51,7 +51,7 @@ pub empty_is_coded : (net : Net) (grid : Grid) (asked : ℕ) → grid.events ≡
 empty_is_coded net grid asked events made few = record {
   events = events;
   made = made;
-  names = subst (AreLogMeanings net no_log grid.steps (asked + length (first_meanings net))) (sym (append-nil (laid_out asked (first_meanings net)))) (meanings_begin net grid.steps asked);
+  meanings = subst (AreLogMeanings net no_log grid.steps (asked + length (first_meanings net))) (sym (append-nil (laid_out asked (first_meanings net)))) (meanings_begin net grid.steps asked);
   after = subst (AllByRecursion (λ entry. asked ≤ entry.0)) (sym (append-nil (laid_out asked (first_meanings net)))) (row_above asked asked (first_meanings net) (omega arith));
   few = few;
   each = refl;
@@ -76,10 +76,10 @@ Grown code addition first = AreLogMeanings code.net (with_addition code.log addi
 grown : (code : CodedLog) (addition : Addition) (first : ℕ) → IsCodedLog code → code.vars ≤ first → Grown code addition first
 grown code (alarm_added new) first is above =
     subst (AreLogMeanings code.net (with_addition code.log (alarm_added new)) code.grid.steps (first + addition_width code (alarm_added new))) (sym (names_with_alarm code new first is.each))
-    (log_meanings_grow code.net code.log code.grid.steps first (alarm_added new) (log_meanings code) (raised code.net code.log code.grid.steps code.vars first (log_meanings code) above is.names))
+    (log_meanings_grow code.net code.log code.grid.steps first (alarm_added new) (log_meanings code) (raised code.net code.log code.grid.steps code.vars first (log_meanings code) above is.meanings))
 grown code (pair_added i j) first is above =
     subst (AreLogMeanings code.net (with_addition code.log (pair_added i j)) code.grid.steps (first + 0)) (append-nil (log_meanings code))
-    (log_meanings_grow code.net code.log code.grid.steps first (pair_added i j) (log_meanings code) (raised code.net code.log code.grid.steps code.vars first (log_meanings code) above is.names))
+    (log_meanings_grow code.net code.log code.grid.steps first (pair_added i j) (log_meanings code) (raised code.net code.log code.grid.steps code.vars first (log_meanings code) above is.meanings))
 
 still_after : (code : CodedLog) (addition : Addition) (first : ℕ) → IsCodedLog code → code.asked ≤ first → AllByRecursion (λ entry. code.asked ≤ entry.0) (log_meanings (code_after code addition first))
 still_after code (alarm_added new) first is above =
@@ -102,14 +102,14 @@ still_fewer code (pair_added i j) first is above = omega (arith, is.alarms, abov
 
 -- its first variable is below the number above all
 pub asked_below : (code : CodedLog) → IsCodedLog code → code.asked < code.vars
-asked_below code is = is.names.below.0
+asked_below code is = is.meanings.below.0
 
 pub grown_is_coded : (code : CodedLog) (addition : Addition) (first : ℕ) → IsCodedLog code → code.vars ≤ first → first + addition_width code addition ≤ VAR_LIMIT → IsCodedLog (code_after code addition first)
 grown_is_coded code addition first is above few =
     let low = asked_below code is in record {
       events = is.events;
       made = is.made;
-      names = grown code addition first is above;
+      meanings = grown code addition first is above;
       after = still_after code addition first is (omega (arith, low));
       few = few;
       each = still_each code addition first is;
@@ -118,7 +118,7 @@ grown_is_coded code addition first is above few =
 
 -- the names of a code go together with those of the events
 pub beside : (code : CodedLog) → IsCodedLog code → AreBesideEvents code.net code.grid.steps code.grid.first (log_meanings code)
-beside code coded = meanings_join_events code.net code.log code.grid.steps code.grid.first code.vars (log_meanings code) coded.names (all_after (log_meanings code) coded.after)
+beside code coded = meanings_join_events code.net code.log code.grid.steps code.grid.first code.vars (log_meanings code) coded.meanings (all_after (log_meanings code) coded.after)
   where
     made : code.grid.first + length code.net.events * code.grid.steps ≤ code.asked
     made = subst (λ k. code.grid.first + k * code.grid.steps ≤ code.asked) coded.events coded.made

@@ -81,7 +81,7 @@ new_vars code first links maybe = record { start = first; links = links; steps =
 pub places : (code : CodedLog) (labels : List (List ℕ)) (maybe : Bool) (first : ℕ) → IsCodedLog code → code.vars ≤ first → HasAlarmPlaces code.net code.log code.grid.steps first (nameless labels maybe) (log_meanings (code_after code (alarm_added (nameless labels maybe)) first))
 places code labels maybe first coded above =
     subst (HasAlarmPlaces code.net code.log code.grid.steps first (nameless labels maybe)) (sym (names_with_alarm code (nameless labels maybe) first coded.each))
-    (places_of_meanings code.net code.log code.grid.steps first (nameless labels maybe) (log_meanings code) (raised code.net code.log code.grid.steps code.vars first (log_meanings code) above coded.names))
+    (places_of_meanings code.net code.log code.grid.steps first (nameless labels maybe) (log_meanings code) (raised code.net code.log code.grid.steps code.vars first (log_meanings code) above coded.meanings))
 
 joined_count : (net : Net) (log : Log) (new : Alarm) (e : ℕ) → has_any_label net new.labels e ≡ true → length (chain net (with_addition log (alarm_added new)) e) ≡ suc (length (chain net log e))
 joined_count net log new e h = ap length (chain_joined net log new e h) ∙ omega (arith, length-append (chain net log e) (length log.alarms ∷ []))

@@ -79,7 +79,7 @@ code_after code addition first = record code {
 pub record IsCodedLog (code : CodedLog) : Type 0 where
   pub events : code.grid.events ≡ length code.net.events
   pub made : code.grid.first + code.grid.events * code.grid.steps ≤ code.asked
-  pub names : AreLogMeanings code.net code.log code.grid.steps code.vars (log_meanings code)
+  pub meanings : AreLogMeanings code.net code.log code.grid.steps code.vars (log_meanings code)
   pub after : AllByRecursion (λ entry. code.asked ≤ entry.0) (log_meanings code)
   pub few : code.vars ≤ VAR_LIMIT
   pub each : length code.starts ≡ length code.log.alarms

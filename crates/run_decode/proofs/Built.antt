@@ -20,7 +20,7 @@ steps_written net n stepped appended = appended.whole ∙ listed_are_written (co
 
 inputs_written : (steps : CodedSteps) (code : CodedLog) (inputs : List Lit) → IsCodedLog code → AreInputs steps code inputs → inputs ≡ inputs_built steps code
 inputs_written steps code inputs coded are =
-    are.whole ∙ ap (λ lits. fault_literals steps.net (code_grid steps) ++ lits) (clause_written (log_meanings code) coded.names.once are.false_lits (false_literals code.log) are.read)
+    are.whole ∙ ap (λ lits. fault_literals steps.net (code_grid steps) ++ lits) (clause_written (log_meanings code) coded.meanings.once are.false_lits (false_literals code.log) are.read)
 
 pub question_begins : QuestionBegins
 question_begins net log n code stepped written inputs appended coded built are =

@@ -110,7 +110,7 @@ question_is_faithful net log n bound names clauses assumed network valid asks = 
 
 pub question_is_drawn : QuestionIsDrawn
 question_is_drawn net log n bound names clauses assumed asks = record {
-  names = names;
+  meanings = names;
   once = asks.question.once;
   instances = all_from (IsInstance net log n names) clauses (λ clause in'.
       let found = all_at (λ c. (named : List NamedLiteral) × IsNamedQuestion net log n asks.columns named × ReadsAs names c named) clauses asks.question.code.only clause in' in

@@ -77,7 +77,7 @@ module _ (steps : CodedSteps) (code : CodedLog) (counter : CounterState) (togeth
   names_once : HasEachOnce (whole_meanings steps code counter)
   names_once =
       pairs_append Differ (code_meanings steps) (log_meanings code ++ counter_meanings counter) (steps_are_laid_out steps.net steps.steps steps.first).once
-      (pairs_append Differ (log_meanings code) (counter_meanings counter) together.beside.logged.names.once (counter_meanings_stand counter together.counted).once log_and_counter)
+      (pairs_append Differ (log_meanings code) (counter_meanings counter) together.beside.logged.meanings.once (counter_meanings_stand counter together.counted).once log_and_counter)
       (λ x y of_steps rest. by x y of_steps (Contains-append_cases (log_meanings code) (counter_meanings counter) y rest))
     where
       by : (x y : ℕ × Meaning) → Contains (code_meanings steps) x → Contains (log_meanings code) y ⊎ Contains (counter_meanings counter) y → Differ x y
@@ -170,7 +170,7 @@ module _ (steps : CodedSteps) (code : CodedLog) (counter : CounterState) (first 
       by (inl old) = λ same. together.apart entry i j in' old (same ∙ variable_before counter first i j old)
       by (inr (below, is)) =
           let last = subst (λ k. variable (with_column counter first) i k ≡ first + i) (sym is) (variable_last counter first i below) in
-          let low = all_at (λ (e : ℕ × Meaning). e.0 < code.vars) (log_meanings code) together.beside.logged.names.below entry in' in
+          let low = all_at (λ (e : ℕ × Meaning). e.0 < code.vars) (log_meanings code) together.beside.logged.meanings.below entry in' in
           λ same. omega (arith, low, last, same, above)
 
   module _ (addition : Addition) (few : first + addition_width code addition ≤ VAR_LIMIT) where
@@ -197,7 +197,7 @@ module _ (steps : CodedSteps) (code : CodedLog) (counter : CounterState) (first 
     -- what says by the names of the log that alarms are false says so by those of the longer log
     false_stay : named_clause (log_meanings longer_code) together.inputs.false_lits ≡ Some (false_literals code.log)
     unfolding longer_code
-    false_stay = clause_stays (log_meanings code) (log_meanings longer_code) (grown (alarm_added new) few).names.once
+    false_stay = clause_stays (log_meanings code) (log_meanings longer_code) (grown (alarm_added new) few).meanings.once
         (λ entry in'. subst (λ names. Contains names entry) (sym (names_with_alarm code new first together.beside.logged.each)) (Contains-append_left (log_meanings code) (laid_out first (added_meanings code.net code.log code.grid.steps (alarm_added new))) entry in'))
         together.inputs.false_lits (false_literals code.log) together.inputs.read
 
@@ -271,7 +271,7 @@ module _ (steps : CodedSteps) (code : CodedLog) (counter : CounterState) (first 
       where
         one : named_clause (log_meanings longer_code) (false_input code new first ∷ []) ≡ Some (yes (dropped (length code.log.alarms)) ∷ [])
         one =
-            let meaning = has_name (log_meanings longer_code) ((false_input code new first).var, dropped (length code.log.alarms)) (grown (alarm_added new) few).names.once (input_entry h) in
+            let meaning = has_name (log_meanings longer_code) ((false_input code new first).var, dropped (length code.log.alarms)) (grown (alarm_added new) few).meanings.once (input_entry h) in
             ap (λ o. with_literal (option_map (λ (meaning' : Meaning). record { meaning = meaning'; positive = true }) o) (Some [])) meaning
 
         begins : steps.first + variable_count steps.net steps.steps ≤ first
@@ -288,7 +288,7 @@ module _ (steps : CodedSteps) (code : CodedLog) (counter : CounterState) (first 
         apart : (entry : ℕ × Meaning) (i j : ℕ) → Contains (log_meanings longer_code) entry → (IsPlace counter i j × (variable longer_counter i j ≡ variable counter i j)) ⊎ (next ≤ variable longer_counter i j) → entry.0 ≢ variable longer_counter i j
         apart entry i j in' (inl (old, is)) = λ same. apart_by_addition (alarm_added new) entry i j in' old (same ∙ is)
         apart entry i j in' (inr high) =
-            let low = all_at (λ (e : ℕ × Meaning). e.0 < first + addition_width code (alarm_added new)) (log_meanings longer_code) (grown (alarm_added new) few).names.below entry in' in
+            let low = all_at (λ (e : ℕ × Meaning). e.0 < first + addition_width code (alarm_added new)) (log_meanings longer_code) (grown (alarm_added new) few).meanings.below entry in' in
             λ same. omega (arith, low, high, same)
 
   by_addition : (addition : Addition) → first + addition_width code addition ≤ VAR_LIMIT → AreCodedTogether steps (code_after code addition first) (counter_after code counter addition first)

@@ -46,9 +46,9 @@ bound_literals net log n (Some b) = at_most (length (fault_inputs net log n)) b
 abbrev pub assumption_literals : Net → Log → ℕ → Option ℕ → List NamedLiteral
 assumption_literals net log n bound = guard_literals net log ++ bound_literals net log n bound
 
--- Some naming, of which neither a variable nor a meaning stands twice, names each variable: by it all clauses are instances, and the assumptions are, as a set, the guards and the bound.
+-- Some naming, of which neither a variable nor a meaning stands twice, meanings each variable: by it all clauses are instances, and the assumptions are, as a set, the guards and the bound.
 pub record IsDrawn (clauses : List Clause) (assumed : List Lit) (net : Net) (log : Log) (n : ℕ) (bound : Option ℕ) : Type 0 where
-  pub names : List (ℕ × Meaning)
-  pub once : HasEachOnce names
-  pub instances : AllByRecursion (IsInstance net log n names) clauses
-  pub assumes : ReadsAs names assumed (assumption_literals net log n bound)
+  pub meanings : List (ℕ × Meaning)
+  pub once : HasEachOnce meanings
+  pub instances : AllByRecursion (IsInstance net log n meanings) clauses
+  pub assumes : ReadsAs meanings assumed (assumption_literals net log n bound)
