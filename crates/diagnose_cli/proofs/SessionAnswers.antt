@@ -69,7 +69,7 @@ module _ (may due : Ending → Type 0) (weaker : (e : Ending) → may e → due 
   speaks_weaker rose status h = record {
     ends = λ four. finishes status (h.ends four);
     put_failed = h.put_failed;
-    cut_off = λ four. let c = h.cut_off four in record { ending = c.ending; due = weaker c.ending c.due; last = c.last; put = c.put };
+    cut_off = λ four. let c = h.cut_off four in record { ending = c.ending; due = weaker c.ending c.due; told_cut = c.told_cut; stops = c.stops; put = c.put };
   }
 
 -- no stop has the status of a session

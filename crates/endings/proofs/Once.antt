@@ -1,5 +1,5 @@
 -- A command with one reply that puts its one text.
-use Rattle.std.proofs.Common.{◌≡◌, ◌≢◌, ◌⊎◌, ◌<◌, arith, inl, inr, ℕ, IfOk, List, [], ◌∷◌, Option, Some, Result, Ok, Err, refl, sym, ap, subst, append-nil}
+use Rattle.std.proofs.Common.{◌≡◌, ◌≢◌, ◌⊎◌, ◌<◌, arith, inl, inr, ℕ, IfOk, List, [], Option, Result, Ok, Err, refl, ap, subst, append-nil}
 use Rattle.std.specs.List.{concat}
 use Rattle.std.proofs.lemmas.Bool.{cases_order}
 use Rattle.des_base.specs.Outside.{Took, TookFront}
@@ -40,11 +40,12 @@ module _ (may : Ending → Type 0) (Q : Type 0) (q : Q) (r : Result (Kind × Lis
   }
     where
       cut_by : (x : Result (Kind × List ℕ) Stop) → UnlessMemory x (may (once x)) → IfOk x (λ reply. may (Ok (cut_short reply))) → once x ≢ Err Memory → TookFront before now (concat (ending_texts (once x))) → IsCutOff may before now
-      cut_by (Ok reply) of cuts known front = record { ending = Ok (cut_short reply); due = cuts; last = refl; put = cut_first before now reply.1 (subst (TookFront before now) (append-nil reply.1) front) }
+      cut_by (Ok reply) of cuts known front = record { ending = Ok (cut_short reply); due = cuts; told_cut = refl; stops = tt; put = cut_first before now reply.1 (subst (TookFront before now) (append-nil reply.1) front) }
       cut_by (Err stop) of cuts known front = record {
         ending = Err stop;
         due = of (λ e. known (same stop e));
-        last = λ e. known (ap (λ (s : Stop). Err s) e);
+        told_cut = tt;
+        stops = λ e. known (ap (λ (s : Stop). Err s) e);
         put = cut_first before now (text_of_stop stop) (subst (TookFront before now) (append-nil (text_of_stop stop)) front);
       }
         where

@@ -42,4 +42,4 @@ module _ (due : Ending → Type 0) (lost : Type 0) (before now : Option (List �
 
     -- those before one that couldn't be put whole, and of this a front
     pub speaks_cut : due (Ok (record { texts = texts; end = cut })) → rose → TookCut texts before now → Speaks due lost before now rose 4
-    speaks_cut says failed put = cut_speaks failed (record { ending = Ok (record { texts = texts; end = cut }); due = says; last = refl; put = put })
+    speaks_cut says failed put = cut_speaks failed (record { ending = Ok (record { texts = texts; end = cut }); due = says; told_cut = refl; stops = tt; put = put })

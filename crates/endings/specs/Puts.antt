@@ -1,5 +1,5 @@
 -- What putting the texts of an ending does.
-use Rattle.std.specs.Prelude.{◌≡◌, ◌≢◌, ℕ, List, [], Option, Ok, Err}
+use Rattle.std.specs.Prelude.{◌≡◌, ◌≢◌, ℕ, List, [], Option, Err, IfErr, IfOk}
 use Rattle.std.specs.List.{concat}
 use Rattle.des_base.specs.Outside.{Took, TookFront}
 use Rattle.telling.specs.Telling.{TookCut}
@@ -25,16 +25,12 @@ pub record Finishes (may : Ending → Type 0) (before now : Option (List ℕ)) (
   pub shown : HasStatus ending status
   pub put : Took before now (concat (ending_texts ending))
 
--- Its last text can't be put whole: what a command says ends so, and a stop may, but for want of memory, for which nothing is put.
-abbrev pub EndsCut : Ending → Type 0
-EndsCut (Ok told) = told.end ≡ cut
-EndsCut (Err stop) = stop ≢ Memory
-
--- its texts were put, but of the last one a front alone
+-- Its texts were put, but of the last one a front alone. What a command says ends so, and a stop may, but for want of memory, for which nothing is put.
 pub record IsCutOff (may : Ending → Type 0) (before now : Option (List ℕ)) : Type 0 where
   pub ending : Ending
   pub due : may ending
-  pub last : EndsCut ending
+  pub told_cut : IfOk ending (λ told. told.end ≡ cut)
+  pub stops : IfErr ending (λ stop. stop ≢ Memory)
   pub put : TookCut (ending_texts ending) before now
 
 -- An ending that is due was put: whole, or where the status is 4 with a front of its last text. Or it ran out of memory before anything was put, where lost is so. Here rose says that the sink's count of faults rose.
