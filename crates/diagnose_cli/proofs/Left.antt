@@ -3,7 +3,7 @@ use Rattle.std.proofs.Common.{◌≡◌, ℕ, List, [], ◌∷◌, Option, Some,
 use Rattle.des_base.specs.CommandWords.{word_at}
 use Rattle.des_net.specs.Network.{Net}
 use Rattle.event_costs.specs.CostText.{cost_of}
-use Rattle.inquiries.specs.Begun.{HasLearntWithin, LeavesQuestion}
+use Rattle.inquiries.specs.Begun.{HasLearntWithin, LeavesQuestion, MayLearn}
 use Rattle.inquiries.specs.LeastCost.{LeavesCosts}
 use Rattle.gen_plant.specs.Plant.{plant_net, plant_log}
 use Rattle.log_csv.specs.LogText.{log_of}
@@ -19,7 +19,7 @@ use Rattle.diagnose_cli.specs.declared.command.Single.TheVariants.{Ask, Bench, T
 use Rattle.diagnose_cli.specs.Commands.{command_of}
 use Rattle.diagnose_cli.specs.Outcomes.{Outcome}
 use Rattle.diagnose_cli.specs.Replies.{budget_of}
-use Rattle.diagnose_cli.specs.Rows.{AreTold, Leaves, LeftRow, MayLearn}
+use Rattle.diagnose_cli.specs.Rows.{AreTold, Leaves, LeftRow}
 use Rattle.diagnose_cli.specs.FirstTwo.{IsCase}
 use Rattle.diagnose_cli.specs.TwinReplies.{LeavesOfWord}
 

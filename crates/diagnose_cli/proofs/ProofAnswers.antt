@@ -1,21 +1,26 @@
 -- What a reply tells of a refutation, by what was refuted.
-use Rattle.std.proofs.Common.{◌≡◌, ◌≢◌, ◌∙◌, ℕ, zero, suc, List, Option, Some, None, ap, refl, subst}
+use Rattle.std.proofs.Common.{◌≡◌, ◌≢◌, ◌≤◌, ◌∙◌, ℕ, zero, suc, List, Option, Some, None, ap, refl, sym, subst}
 use Rattle.std.specs.Prelude.{All, codes}
-use Rattle.des_net.specs.Network.{Net}
-use Rattle.inquiries.specs.Refuted.{IsVerifiedRefutation, IsRefutedBelow, IsRefutedFor, IsRefutedWithin}
+use Rattle.des_net.specs.Building.{IsDraft}
+use Rattle.des_net.specs.Network.{Net, IsNetwork}
+use Rattle.inquiries.specs.Refuted.{IsVerifiedRefutation, IsRefutedBelow, IsRefutedFor, IsRefutedWithin, IsRefuting}
+use Rattle.inquiries.specs.declared.refutation.Refuted.{Refuted}
 use Rattle.inquiries.specs.declared.refutation.Refuted.TheVariants.{Within, Nothing, Undecided as NotRefuted}
 use Rattle.least_faults.specs.declared.answer.Found.{Found}
 use Rattle.least_faults.specs.declared.answer.Found.TheVariants.{Explained, Absent, Many, Undecided}
+use Rattle.log_order.specs.Adding.{IsLog}
 use Rattle.log_order.specs.Log.{Log as AlarmLog}
 use Rattle.proof_ledger.specs.Book.{BookEntry}
 use Rattle.proof_ledger.specs.declared.checker.ProofStep.{ProofStep}
 use Rattle.proof_text.specs.PrintedText.{ReadsBackAsProof, steps_text}
 use Rattle.proof_text.specs.ProofNumbers.{NumbersAscend, HasNoZero}
+use Rattle.report.specs.Replies.{EventsKnown}
 use Rattle.diagnose_cli.specs.declared.command.Question.TheVariants.{PrintProof}
 use Rattle.endings.specs.declared.ending.Kind.{Kind}
 use Rattle.endings.specs.declared.ending.Kind.TheVariants.{Nothing as NothingToSay, Undecided as LeftOpen}
 use Rattle.diagnose_cli.specs.Replies.{AnswersTo, SaysProved, TellsBelow, TellsProof, TellsRefutation, kind_of_found, reply_of_found, reply_of_proof}
-use Rattle.diagnose_cli.proofs.Diagnosing.{found_decided}
+use Rattle.diagnose_cli.proofs.Diagnosing.{answers_question, found_decided}
+use Rattle.verdict_telling.proofs.Runs.{found_known}
 use Rattle.diagnose_cli.proofs.ProofsReadBack.{tells_refutation}
 
 same_steps : (b bound : Option ℕ) (s steps : List ProofStep) → Within bound steps ≡ Within b s → s ≡ steps
@@ -38,7 +43,7 @@ module _ (net : Net) (log : AlarmLog) (n : ℕ) (book : List BookEntry) where
     fine_below (suc k) h = fine_within (Some k) h
 
     -- its steps can be printed
-    pub fine_steps : (found : Found) → IsRefutedFor net log n book found (Within bound steps) → NumbersAscend 0 steps × All HasNoZero steps
+    fine_steps : (found : Found) → IsRefutedFor net log n book found (Within bound steps) → NumbersAscend 0 steps × All HasNoZero steps
     fine_steps (Explained best) h = fine_below best.faults h
     fine_steps Absent h = fine_within None h
     fine_steps (Many best) h = fine_within (Some 255) h
@@ -54,7 +59,7 @@ module _ (net : Net) (log : AlarmLog) (n : ℕ) (book : List BookEntry) where
       told_below zero h = cc
       told_below (suc k) h = told_within (Some k) h
 
-      pub told_proof : (found : Found) → IsRefutedFor net log n book found (Within bound steps) → TellsProof net log n book found reply
+      told_proof : (found : Found) → IsRefutedFor net log n book found (Within bound steps) → TellsProof net log n book found reply
       told_proof (Explained best) h = told_below best.faults h
       told_proof Absent h = told_within None h
       told_proof (Many best) h = told_within (Some 255) h
@@ -69,7 +74,7 @@ module _ (net : Net) (log : AlarmLog) (n : ℕ) (book : List BookEntry) where
   nothing_below zero reply is h = is
   nothing_below (suc k) reply is h = never_within _ (Some k) h
 
-  pub told_nothing : (found : Found) (reply : Kind × List ℕ) → reply ≡ (NothingToSay, codes "NOTHING\n") → IsRefutedFor net log n book found Nothing → TellsProof net log n book found reply
+  told_nothing : (found : Found) (reply : Kind × List ℕ) → reply ≡ (NothingToSay, codes "NOTHING\n") → IsRefutedFor net log n book found Nothing → TellsProof net log n book found reply
   told_nothing (Explained best) reply is h = nothing_below best.faults reply is h
   told_nothing Absent reply is h = never_within _ None h
   told_nothing (Many best) reply is h = never_within _ (Some 255) h
@@ -84,13 +89,13 @@ module _ (net : Net) (log : AlarmLog) (n : ℕ) (book : List BookEntry) where
   never_below P other zero h = cc
   never_below P other (suc k) h = never_so P other (Some k) h
 
-  pub same_found : (found other : Found) → IsRefutedFor net log n book found (NotRefuted other) → other ≡ found
+  same_found : (found other : Found) → IsRefutedFor net log n book found (NotRefuted other) → other ≡ found
   same_found (Explained best) other h = never_below _ other best.faults h
   same_found Absent other h = never_so _ other None h
   same_found (Many best) other h = never_so _ other (Some 255) h
   same_found (Undecided lo best) other h = cc
 
-  pub told_undecided : (found other : Found) (reply : Kind × List ℕ) → reply ≡ reply_of_found net n other → IsRefutedFor net log n book found (NotRefuted other) → TellsProof net log n book found reply
+  told_undecided : (found other : Found) (reply : Kind × List ℕ) → reply ≡ reply_of_found net n other → IsRefutedFor net log n book found (NotRefuted other) → TellsProof net log n book found reply
   told_undecided (Explained best) other reply is h = never_below _ other best.faults h
   told_undecided Absent other reply is h = never_so _ other None h
   told_undecided (Many best) other reply is h = never_so _ other (Some 255) h
@@ -111,8 +116,40 @@ module _ (net : Net) (log : AlarmLog) (n budget : ℕ) (book : List BookEntry) w
   proof_open (Undecided lo best) reply tells is = refl
 
   -- so the reply is one to the question for a proof
-  pub answers_proof : (reply : Kind × List ℕ) → SaysProved net log n budget book reply → AnswersTo (PrintProof budget) net log n book reply
+  answers_proof : (reply : Kind × List ℕ) → SaysProved net log n budget book reply → AnswersTo (PrintProof budget) net log n book reply
   answers_proof reply says = record {
     says = says;
     decided = λ enough is. found_decided net log n budget book says.found says.holds.diagnosed enough (proof_open says.found reply says.tells is);
   }
+
+-- ---- what comes of each answer
+
+module _ (net : Net) (log : AlarmLog) (n budget : ℕ) (book : List BookEntry) (answer : Refuted) (says : IsRefuting net log n budget book answer) where
+  refuted_by : (other : Refuted) → answer ≡ other → IsRefutedFor net log n book says.found other
+  refuted_by other is = subst (λ (a : Refuted). IsRefutedFor net log n book says.found a) is says.refuted
+
+  -- a proof can be printed,
+  pub can_print : (bound : Option ℕ) (steps : List ProofStep) → answer ≡ Within bound steps → NumbersAscend 0 steps × All HasNoZero steps
+  can_print bound steps is = fine_steps net log n book bound steps says.found (refuted_by (Within bound steps) is)
+
+  -- the events of what was found are known,
+  pub open_known : (found : Found) → answer ≡ NotRefuted found → EventsKnown net found
+  open_known found is = subst (λ (f : Found). EventsKnown net f) (sym (same_found net log n book says.found found (refuted_by (NotRefuted found) is))) (found_known net log n budget book says.found says.diagnosed)
+
+  -- and each reply is one to the question
+  module _ (network : IsNetwork net) (whole : IsDraft net) (log_whole : IsLog log) (few : n ≤ 1000) where
+    answers_by : (reply : Kind × List ℕ) → TellsProof net log n book says.found reply → AnswersTo (PrintProof budget) net log n book reply
+    answers_by reply tells = answers_proof net log n budget book reply (record {
+      found = says.found;
+      holds = answers_question net log n budget book says.found network whole log_whole few says.diagnosed;
+      tells = tells;
+    })
+
+    pub answers_within : (bound : Option ℕ) (steps : List ProofStep) → answer ≡ Within bound steps → (reply : Kind × List ℕ) → reply ≡ reply_of_proof bound steps → ReadsBackAsProof steps (steps_text steps) → AnswersTo (PrintProof budget) net log n book reply
+    answers_within bound steps is reply told reads = answers_by reply (told_proof net log n book bound steps reads reply told says.found (refuted_by (Within bound steps) is))
+
+    pub answers_nothing : answer ≡ Nothing → (reply : Kind × List ℕ) → reply ≡ (NothingToSay, codes "NOTHING\n") → AnswersTo (PrintProof budget) net log n book reply
+    answers_nothing is reply told = answers_by reply (told_nothing net log n book says.found reply told (refuted_by Nothing is))
+
+    pub answers_undecided : (found : Found) → answer ≡ NotRefuted found → (reply : Kind × List ℕ) → reply ≡ reply_of_found net n found → AnswersTo (PrintProof budget) net log n book reply
+    answers_undecided found is reply told = answers_by reply (told_undecided net log n book says.found found reply told (refuted_by (NotRefuted found) is))

@@ -7,7 +7,7 @@ use Rattle.des_base.specs.Outside.{Took}
 use Rattle.des_net.specs.Network.{Net}
 use Rattle.event_costs.specs.CostText.{cost_of}
 use Rattle.gen_plant.specs.Plant.{plant_net, plant_log}
-use Rattle.inquiries.specs.Begun.{HasAxiomsAlone, HasLearntWithin, LeavesQuestion}
+use Rattle.inquiries.specs.Begun.{HasLearntWithin, LeavesQuestion, MayLearn}
 use Rattle.inquiries.specs.LeastCost.{LeavesCosts}
 use Rattle.least_faults.specs.Answers.{asked_last, HasConflict, IsExplanation}
 use Rattle.least_faults.specs.declared.answer.Best.{Best}
@@ -165,11 +165,6 @@ pub record DiagnoseRows (o : Outcome) : Type 0 where
   pub decided : (steps budget : ℕ) (text alarms : List ℕ) → CallsWith o (One (Ask steps (Diagnose budget))) (text ∷ alarms ∷ []) → IsEnough budget (network_of text) (log_of alarms) steps → o.status ≢ 11
 
 -- ---- what is left in the book
-
--- no more was learnt than the budget says, and without one nothing
-abbrev pub MayLearn : Option ℕ → List BookEntry → Type 0
-MayLearn None = HasAxiomsAlone
-MayLearn (Some budget) = HasLearntWithin budget
 
 -- Of a command that asks one question: nothing, or a book whose axioms are those of the question by its words and over the bytes of its files. No more was learnt than its budget says, and by `cnf` nothing. Of `twin` and `cheapest`: nothing, or the book of an answer. Of `verdicts`: nothing, or a book that begins with the question of the log.
 abbrev pub Leaves : Command → List (List ℕ) → List (List ℕ) → List BookEntry → Type 0

@@ -11,6 +11,7 @@ ghost use Rattle.event_costs.specs.Prices.{cost_at};
 ghost use Rattle.inquiries.specs.LeastCost.{IsPricedBy, IsWithinCosts, LeavesCosts};
 ghost use Rattle.log_csv.specs.LogText.{log_of};
 ghost use Rattle.model_text.specs.ModelFaults.{network_of};
+ghost use Rattle.proof_ledger.specs.Book.{BookEntry};
 ghost use Rattle.report.specs.Replies.{CheapEventsKnown};
 
 use crate::command::{Command, Limits, Single};
@@ -106,25 +107,18 @@ fn reply_to_costs(
     ensures left { LeavesCosts case.now.net (cost_at table.now) case.now.log limits.steps limits.budget book.new.entries }
 {
     let cheap = least_cost(alloc, case, limits.steps, table, limits.budget, book)?;
-    tell(alloc, case, table, limits, &cheap, book)
+    tell(alloc, case, limits.steps, &cheap)
 }
 
-// The reply that tells what is found.
-fn tell(
-    alloc: Global,
-    case: &Case,
-    _table: &CostTable,
-    limits: Limits,
-    cheap: &Cheap,
-    _book: &Ledger,
-) -> Result<Reply, Memory>
-    requires steps { limits.steps ≤ MOST_STEPS }
-    requires priced { IsPricedBy case.now.net (cost_at _table.now) case.now.log limits.steps limits.budget _book.now.entries cheap.now }
-    ensures { IfOk result (SaysCheap case.now.net (cost_at _table.now) case.now.log limits.steps limits.budget _book.now.entries) }
+// The reply that tells what is found, by whatever costs, budget and book.
+fn tell(alloc: Global, case: &Case, steps: u32, cheap: &Cheap) -> Result<Reply, Memory>
+    requires steps { steps ≤ MOST_STEPS }
+    requires known { CheapEventsKnown case.now.net cheap.now }
+    ensures { (cost : ℕ → ℕ) (budget : ℕ) (book : List BookEntry) → IsPricedBy case.now.net cost case.now.log steps budget book cheap.now → IfOk result (SaysCheap case.now.net cost case.now.log steps budget book) }
 {
     case.net.is_built();
     case.log.is_whole();
-    reply_of_cheap(alloc, &case.net, limits.steps, cheap)
+    reply_of_cheap(alloc, &case.net, steps, cheap)
 }
 
 // The reply that has the text of the answer.

@@ -1,5 +1,5 @@
 // The command `cnf`: a question as a formula.
-ghost use Rattle.std.specs.Prelude.{◌≡◌, All, IfOk};
+ghost use Rattle.std.specs.Prelude.{◌≡◌, All, IfOk, refl};
 ghost use Rattle.diagnose_cli.specs.Replies.{reply_of_formula};
 ghost use Rattle.proof_text.specs.CnfText.{formula};
 ghost use Rattle.prop_core.specs.Clauses.{HasValues};
@@ -27,6 +27,8 @@ impl Replying for FormulaWithin {
     ) -> Result<Reply, Memory> {
         reply_of_formula(alloc, &answer)
     }
+
+    ghost same_budget = { λ s. refl };
 }
 
 // The reply that has the text of the formula.

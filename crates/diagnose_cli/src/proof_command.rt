@@ -1,5 +1,5 @@
 // The command `proof`: the refutation that `diagnose` finds.
-ghost use Rattle.std.specs.Prelude.{◌≡◌, ◌++◌, All, codes, IfOk, OnOk};
+ghost use Rattle.std.specs.Prelude.{◌≡◌, ◌++◌, All, codes, IfOk, OnOk, refl};
 ghost use Rattle.diagnose_cli.specs.ProofText.{proof_head};
 ghost use Rattle.diagnose_cli.specs.Replies.{reply_of_proof};
 ghost use Rattle.proof_text.specs.PrintedText.{ReadsBackAsProof, steps_text};
@@ -35,6 +35,8 @@ impl Replying for Refutation {
             Refuted::Undecided(found) => reply_of_found(alloc, &case.net, steps, &found),
         }
     }
+
+    ghost same_budget = { λ s. refl };
 }
 
 // The reply where there is nothing to refute.

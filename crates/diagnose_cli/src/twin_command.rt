@@ -10,6 +10,7 @@ ghost use Rattle.diagnose_cli.specs.TwinReplies.{LeavesOfWord, SaysTwin, kind_of
 ghost use Rattle.event_costs.specs.CostText.{fault_event_of};
 ghost use Rattle.indep.specs.StoredTest.{IsTest};
 ghost use Rattle.model_text.specs.ModelFaults.{network_of};
+ghost use Rattle.proof_ledger.specs.Book.{BookEntry};
 ghost use Rattle.report.specs.Replies.{TwinEventsKnown};
 ghost use Rattle.twin_test.specs.Tested.{IsTested, LeavesTwins};
 
@@ -119,24 +120,15 @@ fn reply_about(
     ensures left { LeavesTwins net.now fault limits.steps limits.after limits.budget book.new.entries }
 {
     let answer = test(alloc, net, fault, limits, book)?;
-    tell(alloc, net, fault, limits, &answer, book)
+    tell(alloc, net, limits, &answer)
 }
 
-// The reply that tells what the test came to.
-fn tell(
-    alloc: Global,
-    net: &Network,
-    fault: EventId,
-    limits: TwinLimits,
-    answer: &Twin,
-    book: &Ledger,
-) -> Result<Reply, Memory>
+// The reply that tells what a test came to.
+fn tell(alloc: Global, net: &Network, limits: TwinLimits, answer: &Twin) -> Result<Reply, Memory>
     requires steps { limits.steps ≤ MOST_STEPS }
-    requires tested { IsTested net.now fault limits.steps limits.after limits.budget book.now.entries answer.now }
-    ensures { IfOk result (SaysTwin net.now fault limits.steps limits.after limits.budget book.now.entries) }
+    requires known { TwinEventsKnown net.now answer.now }
+    ensures { (fault : ℕ) → (book : List BookEntry) → IsTested net.now fault limits.steps limits.after limits.budget book answer.now → IfOk result (SaysTwin net.now fault limits.steps limits.after limits.budget book) }
 {
-    let _ = fault;
-    let _ = book;
     net.is_built();
     reply_of_twin(alloc, net, limits.steps, answer)
 }

@@ -8,10 +8,10 @@ use Rattle.least_faults.proofs.Freshness.{fresh_axioms, fresh_both}
 use Rattle.least_faults.specs.declared.answer.Found.{Found}
 use Rattle.least_faults.specs.declared.parts.Parts.{Parts}
 use Rattle.least_faults.specs.Answers.{HaveLearntFresh, IsAnswered}
-use Rattle.least_faults.proofs.Staying.{built_still}
+use Rattle.least_faults.proofs.Staying.{belong_still, built_still}
 use Rattle.least_faults.specs.Building.{AreBuilt}
 use Rattle.least_faults.specs.Growing.{AddsAxioms, HasGrownWithin, KeepsQuestion}
-use Rattle.least_faults.specs.Parts.{IsBuilt, built_of, meanings_of_parts}
+use Rattle.least_faults.specs.Parts.{AreReady, IsBuilt, built_of, meanings_of_parts}
 use Rattle.log_order.specs.Log.{Log}
 use Rattle.proof_ledger.specs.Book.{BookEntry, axiomatic, axioms_of, IsValidBook}
 use Rattle.proof_ledger.specs.Fresh.{is_learnt}
@@ -20,7 +20,7 @@ use Rattle.prop_core.specs.VariableNames.{Meaning}
 use Rattle.run_decode.proofs.Faults.{count_append}
 use Rattle.run_decode.specs.QuestionAxioms.{BuiltQuestion, question_axioms, question_built}
 use Rattle.sat_solve.specs.Solving.{SolverState}
-use Rattle.inquiries.specs.Begun.{HasAxiomsAlone, HasBegun, HasLearntWithin, HasQuestion}
+use Rattle.inquiries.specs.Begun.{ArePartsOf, HasAxiomsAlone, HasBegun, HasLearntWithin, HasQuestion}
 use Rattle.inquiries.specs.Diagnosed.{IsDiagnosed}
 use Rattle.proof_ledger.proofs.AxiomLists.{axioms_added, none_learnt}
 
@@ -67,10 +67,12 @@ axioms_alone book adds = adds.more ∙ ap (λ (cs : List Clause). map axiomatic 
 pub begins : {R : Type 0} (may : R → ℕ → Type 0) (gives : R → ℕ → ℕ → Type 0) (net : Net) (log : Log) (n : ℕ) (solver : SolverState R) (parts : Parts R) (old book : List BookEntry) → n ≤ MOST_STEPS → old ≡ [] → AddsAxioms old book → AreBuilt may gives net log n solver book parts
     → HasBegun may gives net log parts book
 begins may gives net log n solver parts old book few empty adds built = record {
-  belong = built.belong;
-  ready = built.ready;
+  parts_of = record {
+    belong = built.belong;
+    ready = built.ready;
+    built = subst (λ (k : ℕ). IsBuilt net log k parts book) (sym built.steps) built.built;
+  };
   axioms = subst (λ (k : ℕ). book ≡ map axiomatic (question_axioms net log k 0)) (sym built.steps) (axioms_begin net log n parts old book empty adds built.columns built.built);
-  built = subst (λ (k : ℕ). IsBuilt net log k parts book) (sym built.steps) built.built;
   columns = built.columns;
   few = subst (λ (k : ℕ). k ≤ MOST_STEPS) (sym built.steps) few;
 }
@@ -78,13 +80,20 @@ begins may gives net log n solver parts old book few empty adds built = record {
 module _ {R : Type 0} (may : R → ℕ → Type 0) (gives : R → ℕ → ℕ → Type 0) (net : Net) (log : Log) (parts later : Parts R) (old book : List BookEntry) (begun : HasBegun may gives net log parts old) (kept : KeepsQuestion parts later old book) where
   -- the parts that are left are still those of the question
   pub stays_built : IsBuilt net log parts.step.steps later book
-  stays_built = built_still net log parts.step.steps parts later kept begun.built
+  stays_built = built_still net log parts.step.steps parts later kept begun.parts_of.built
 
   pub steps_stay : later.step.steps ≡ parts.step.steps
   steps_stay = ap (λ s. s.steps) kept.step
 
+  pub parts_stay : AreReady may gives later book → ArePartsOf may gives net log later book
+  parts_stay ready = record {
+    belong = belong_still net log parts later kept begun.parts_of.belong;
+    ready = ready;
+    built = subst (λ (n : ℕ). IsBuilt net log n later book) (sym steps_stay) stays_built;
+  }
+
   pub first_built : built_of parts old ≡ question_built net log parts.step.steps 0
-  first_built = question_begins net log parts.step.steps parts old begun.columns begun.built
+  first_built = question_begins net log parts.step.steps parts old begun.columns begun.parts_of.built
 
   -- and so are the axioms of the book
   pub question_left : (P : List BookEntry → Type 0) → P book → HasQuestion net log parts.step.steps P book

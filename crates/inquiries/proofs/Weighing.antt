@@ -1,12 +1,12 @@
 -- What is found of the least total, by costs that a table holds.
-use Rattle.std.proofs.Common.{◌≡◌, ◌∙◌, ◌≤◌, ◌<◌, ℕ, true, List, length, map, Option, ap, subst, sym, arith}
+use Rattle.std.proofs.Common.{◌≡◌, ◌∙◌, ℕ, List, map, Option, ap, subst, sym, arith}
 use Rattle.card_counter.specs.CounterState.{CounterState}
 use Rattle.cost_least.proofs.SameCosts.{fault_known, same_answered, same_parts}
 use Rattle.cost_least.specs.Answers.{CostAsked, IsCostAnswered}
 use Rattle.cost_least.specs.Searching.{HasAnsweredCosts}
 use Rattle.cost_least.specs.Weighed.{AreWeighedParts, KeepsCode}
 use Rattle.cost_least.specs.declared.answer.Cheap.{Cheap}
-use Rattle.des_net.specs.Network.{Net, is_fault}
+use Rattle.des_net.specs.Network.{Net}
 use Rattle.event_costs.specs.Prices.{cost_at}
 use Rattle.least_faults.specs.Parts.{IsWithinLimits, built_of}
 use Rattle.least_faults.specs.declared.parts.Parts.{Parts}
@@ -38,17 +38,17 @@ module _ {R C : Type 0} (may : R → ℕ → Type 0) (gives : R → ℕ → ℕ 
       subst (λ (o : List BookEntry). IsCostAnswered (asked parts.step.steps) budget o new cheap) begun.axioms of_steps
 
   built : built_of parts old ≡ question_built net log parts.step.steps 0
-  built = question_begins net log parts.step.steps parts old begun.columns begun.built
+  built = question_begins net log parts.step.steps parts old begun.columns begun.parts_of.built
 
   question : HasCostQuestion net (cost_at table) log parts.step.steps new
   question =
-      let of_net = ap (λ (s : CodedSteps). s.net) kept.step ∙ begun.belong.of_steps in
+      let of_net = ap (λ (s : CodedSteps). s.net) kept.step ∙ begun.parts_of.belong.of_steps in
       let by_costs = same_parts net found.cost (cost_at table) alike later.step later.code.coded later.counter later.vars (axioms_of new) found.scale of_net found.weighed in
       let step = kept.step ∙ ap (λ (q : BuiltQuestion). q.steps) built in
       let code = ap (λ (c : _). c.coded) kept.code ∙ ap (λ (q : BuiltQuestion). q.code) built in
       let counter = kept.counter ∙ ap (λ (q : BuiltQuestion). q.counter) built in
       let belong = subst (λ (s : CodedSteps). BelongTogether net log s (question_built net log parts.step.steps 0).code) (ap (λ (q : BuiltQuestion). q.steps) built)
-      (subst (λ (d : CodedLog). BelongTogether net log parts.step d) (ap (λ (q : BuiltQuestion). q.code) built) begun.belong) in
+      (subst (λ (d : CodedLog). BelongTogether net log parts.step d) (ap (λ (q : BuiltQuestion). q.code) built) begun.parts_of.belong) in
       record {
         belong = belong;
         of_steps = sym (ap (λ (q : BuiltQuestion). q.steps.steps) built);

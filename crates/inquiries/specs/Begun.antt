@@ -1,5 +1,5 @@
 -- A question that is written into a book, before anything is asked of it, and what stays of it whatever is asked.
-use Rattle.std.specs.Prelude.{◌≡◌, ◌⊎◌, ◌≤◌, ℕ, List, [], map, count_by}
+use Rattle.std.specs.Prelude.{◌≡◌, ◌⊎◌, ◌≤◌, ℕ, List, [], map, count_by, Option, None, Some}
 use Rattle.des_base.specs.declared.TheConstants.{MOST_STEPS}
 use Rattle.des_net.specs.Network.{Net}
 use Rattle.least_faults.specs.declared.parts.Parts.{Parts}
@@ -10,12 +10,16 @@ use Rattle.proof_ledger.specs.Book.{BookEntry, axiomatic, axioms_of, IsValidBook
 use Rattle.proof_ledger.specs.Fresh.{is_learnt}
 use Rattle.run_decode.specs.QuestionAxioms.{question_axioms}
 
--- The book has the axioms of the question without columns, and nothing else. The parts are theirs, and belong to network and log.
-pub record HasBegun {R : Type 0} (may : R → ℕ → Type 0) (gives : R → ℕ → ℕ → Type 0) (net : Net) (log : Log) (parts : Parts R) (book : List BookEntry) : Type 0 where
+-- The axioms of the book are those of a question about network and log, and the parts are theirs.
+pub record ArePartsOf {R : Type 0} (may : R → ℕ → Type 0) (gives : R → ℕ → ℕ → Type 0) (net : Net) (log : Log) (parts : Parts R) (book : List BookEntry) : Type 0 where
   pub belong : BelongTo net log parts
   pub ready : AreReady may gives parts book
-  pub axioms : book ≡ map axiomatic (question_axioms net log parts.step.steps 0)
   pub built : IsBuilt net log parts.step.steps parts book
+
+-- The book has the axioms of the question without columns, and nothing else.
+pub record HasBegun {R : Type 0} (may : R → ℕ → Type 0) (gives : R → ℕ → ℕ → Type 0) (net : Net) (log : Log) (parts : Parts R) (book : List BookEntry) : Type 0 where
+  pub parts_of : ArePartsOf may gives net log parts book
+  pub axioms : book ≡ map axiomatic (question_axioms net log parts.step.steps 0)
   pub columns : parts.counter.columns ≡ []
   pub few : parts.step.steps ≤ MOST_STEPS
 
@@ -40,3 +44,8 @@ pub record HasLearntWithin (budget : ℕ) (book : List BookEntry) : Type 0 where
   pub within : count_by is_learnt book ≤ budget
   pub fresh : HaveLearntFresh [] book
   pub valid : IsValidBook book
+
+-- no more was learnt than the budget says, and without one nothing
+abbrev pub MayLearn : Option ℕ → List BookEntry → Type 0
+MayLearn None = HasAxiomsAlone
+MayLearn (Some budget) = HasLearntWithin budget

@@ -1,6 +1,5 @@
 // A question as a formula: its axioms, and a unit clause for each assumption.
-ghost use Rattle.std.specs.Prelude.{◌≡◌, ◌++◌, IfOk, IfSome};
-ghost use Rattle.inquiries.specs.Begun.{HasAxiomsAlone};
+ghost use Rattle.std.specs.Prelude.{◌≡◌, ◌++◌, IfOk, IfSome, None};
 ghost use Rattle.inquiries.specs.Formula.{IsFormulaOf, counted_bound};
 ghost use Rattle.least_faults.specs.Asking.{IsBoundable};
 ghost use Rattle.proof_ledger.specs.Book.{clauses_of};
@@ -27,7 +26,7 @@ impl Inquiry for FormulaWithin {
 
     ghost says = { λ s net log n book cnf. IsFormulaOf net log n s.bound book (formula cnf.vars cnf.clauses.clauses) };
 
-    ghost leaves = { λ s book. HasAxiomsAlone book };
+    ghost budget = { λ s. None };
 
     fn ask<R: Fn(u32) -> u64>(
         &self,

@@ -1,6 +1,10 @@
 // The least number of faults, as an inquiry.
-ghost use Rattle.inquiries.specs.Begun.{HasLearntWithin};
+ghost use Rattle.std.specs.Prelude.{IfOk, Some};
+ghost use Rattle.inquiries.specs.Begun.{HasBegun, HasLearntWithin, HasQuestion};
 ghost use Rattle.inquiries.specs.Diagnosed.{IsDiagnosed};
+ghost use Rattle.inquiries.specs.Refuted.{HasEvidenceFor};
+ghost use Rattle.least_faults.specs.Growing.{KeepsQuestion};
+ghost use Rattle.least_faults.specs.Parts.{AreReady};
 
 use crate::question::{Case, Inquiry};
 use des_base::Memory;
@@ -19,7 +23,7 @@ impl Inquiry for LeastFaults {
 
     ghost says = { λ s net log n book found. IsDiagnosed net log n s.budget book found };
 
-    ghost leaves = { λ s book. HasLearntWithin s.budget book };
+    ghost budget = { λ s. Some s.budget };
 
     fn ask<R: Fn(u32) -> u64>(
         &self,
@@ -28,8 +32,27 @@ impl Inquiry for LeastFaults {
         parts: &mut Parts<R>,
         book: &mut Ledger,
     ) -> Result<Found, Memory> {
-        let found = least(alloc, &case.net, &case.log, parts, book, self.budget);
-        book.entries();
-        found
+        find_least(alloc, case, parts, book, self.budget)
     }
+}
+
+/// Searches for the least number of faults, where nothing has been asked of the question that the book has. The book then has evidence
+/// for what is found.
+pub fn find_least<R: Fn(u32) -> u64>(
+    alloc: Global,
+    case: &Case,
+    parts: &mut Parts<R>,
+    book: &mut Ledger,
+    budget: u64,
+) -> Result<Found, Memory>
+    requires begun { HasBegun R.pre R.post case.now.net case.now.log parts.old book.old.entries }
+    ensures diagnosed { IfOk result (IsDiagnosed case.now.net case.now.log parts.old.step.steps budget book.new.entries) }
+    ensures evidence { IfOk result (HasEvidenceFor case.now.net case.now.log parts.new book.new.entries) }
+    ensures kept { KeepsQuestion parts.old parts.new book.old.entries book.new.entries }
+    ensures ready { AreReady R.pre R.post parts.new book.new.entries }
+    ensures left { HasQuestion case.now.net case.now.log parts.old.step.steps (HasLearntWithin budget) book.new.entries }
+{
+    let found = least(alloc, &case.net, &case.log, parts, book, budget);
+    book.entries();
+    found
 }

@@ -1,5 +1,5 @@
 // The least total cost of what explains a log, where fault events have costs.
-ghost use Rattle.std.specs.Prelude.{◌≡◌, ℕ, [], length, IfOk};
+ghost use Rattle.std.specs.Prelude.{◌≡◌, ℕ, List, [], length, IfOk, Option};
 ghost use Rattle.event_costs.specs.Prices.{cost_at};
 ghost use Rattle.event_costs.specs.StoredCosts.{IsCost};
 ghost use Rattle.indep.specs.StoredTest.{IsTest};
@@ -7,12 +7,12 @@ ghost use Rattle.inquiries.specs.Begun.{HasBegun};
 ghost use Rattle.inquiries.specs.LeastCost.{AnswersTable, IsPricedBy, IsWithinCosts, LeavesCosts};
 ghost use Rattle.least_faults.specs.Building.{IsUnused};
 
-use crate::question::Case;
+use crate::question::{Case, begin};
 use cost_least::{Cheap, cheapest};
 use des_base::{EventId, Memory};
 use event_costs::{CostTable, Costs};
 use indep::{Indep, Table};
-use least_faults::{Parts, build};
+use least_faults::Parts;
 use proof_ledger::Ledger;
 use sat_order::Order;
 use sat_solve::Solver;
@@ -111,10 +111,8 @@ fn weigh_by_solver<T: Fn(u32, u32) -> bool, R: Fn(u32) -> u64>(
     requires empty { book.old.entries ≡ [] }
     ensures { IfOk result (IsPricedBy case.now.net (cost_at table.now) case.now.log steps budget book.new.entries) }
 {
-    match build(alloc, &case.net, &case.log, steps, test, solver, book).ok() {
-        Some(parts) => weigh_parts(alloc, case, parts, table, budget, book),
-        None => Err(Memory),
-    }
+    let parts = begin(alloc, case, steps, test, solver, book)?;
+    weigh_parts(alloc, case, parts, table, budget, book)
 }
 
 // The same where the question is built.
@@ -132,25 +130,23 @@ fn weigh_parts<R: Fn(u32) -> u64>(
     ensures { IfOk result (IsPricedBy case.now.net (cost_at table.now) case.now.log parts.step.steps budget book.new.entries) }
 {
     let costs = Costs::new(&case.net, |event: u32| table.cost(event));
-    weigh_by_costs(alloc, case, parts, &costs, table, budget, book)
+    weigh_by_costs(alloc, case, parts, &costs, budget, book)
 }
 
-// The same by costs that are stored, which are those of the table.
+// The same by costs that are stored, whichever table they are those of.
 fn weigh_by_costs<C: Fn(u32) -> u32, R: Fn(u32) -> u64>(
     alloc: Global,
     case: &Case,
     parts: Parts<R>,
     costs: &Costs<C>,
-    _table: &CostTable,
     budget: u64,
     book: &mut Ledger,
 ) -> Result<Cheap, Memory>
     requires cost { IsCost C.pre C.post costs.now.cost costs.now.net }
     requires net { costs.now.net ≡ case.now.net }
-    requires same { AnswersTable C.post costs.now.cost case.now.net _table.now }
     requires begun { HasBegun R.pre R.post case.now.net case.now.log parts book.old.entries }
     requires limits { IsWithinCosts case.now.net case.now.log parts.step.steps }
-    ensures { IfOk result (IsPricedBy case.now.net (cost_at _table.now) case.now.log parts.step.steps budget book.new.entries) }
+    ensures { (table : List (Option ℕ)) → AnswersTable C.post costs.now.cost case.now.net table → IfOk result (IsPricedBy case.now.net (cost_at table) case.now.log parts.step.steps budget book.new.entries) }
 {
     let mut parts = parts;
     let cheap = cheapest(alloc, &case.net, &case.log, &mut parts, costs, book, budget);

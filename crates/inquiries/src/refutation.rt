@@ -1,13 +1,13 @@
 // The refutation of the bound below the least number of faults, as an inquiry.
 ghost use Rattle.std.specs.Prelude.{◌≡◌, ◌≤◌, ℕ, suc, Some, IfOk};
-ghost use Rattle.inquiries.specs.Begun.{HasLearntWithin};
+ghost use Rattle.inquiries.specs.Begun.{ArePartsOf};
 ghost use Rattle.inquiries.specs.Refuted.{HasEvidence, HasEvidenceFor, IsRefutedBelow, IsRefutedFor, IsRefutedWithin, IsRefuting};
-ghost use Rattle.least_faults.specs.Parts.{AreReady, BelongTo, IsBuilt};
 
+use crate::least::find_least;
 use crate::question::{Case, Inquiry};
 use crate::refuting::refuting_proof;
 use des_base::Memory;
-use least_faults::{Found, Parts, least};
+use least_faults::{Found, Parts};
 use proof_ledger::Ledger;
 use proof_text::Proof;
 use std::alloc::Global;
@@ -34,7 +34,7 @@ impl Inquiry for Refutation {
 
     ghost says = { λ s net log n book refuted. IsRefuting net log n s.budget book refuted };
 
-    ghost leaves = { λ s book. HasLearntWithin s.budget book };
+    ghost budget = { λ s. Some s.budget };
 
     fn ask<R: Fn(u32) -> u64>(
         &self,
@@ -43,9 +43,8 @@ impl Inquiry for Refutation {
         parts: &mut Parts<R>,
         book: &mut Ledger,
     ) -> Result<Refuted, Memory> {
-        let found = least(alloc, &case.net, &case.log, parts, book, self.budget);
-        book.entries();
-        refuted_for(alloc, case, parts, book, found?)
+        let found = find_least(alloc, case, parts, book, self.budget)?;
+        refuted_for(alloc, case, parts, book, found)
     }
 }
 
@@ -57,9 +56,7 @@ fn refuted_for<R: Fn(u32) -> u64>(
     book: &Ledger,
     found: Found,
 ) -> Result<Refuted, Memory>
-    requires belong { BelongTo case.now.net case.now.log parts.now }
-    requires ready { AreReady R.pre R.post parts.now book.now.entries }
-    requires built { IsBuilt case.now.net case.now.log parts.now.step.steps parts.now book.now.entries }
+    requires parts { ArePartsOf R.pre R.post case.now.net case.now.log parts.now book.now.entries }
     requires evidence { HasEvidenceFor case.now.net case.now.log parts.now book.now.entries found }
     ensures { IfOk result (IsRefutedFor case.now.net case.now.log parts.now.step.steps book.now.entries found) }
 {
@@ -79,9 +76,7 @@ fn below<R: Fn(u32) -> u64>(
     book: &Ledger,
     faults: u32,
 ) -> Result<Refuted, Memory>
-    requires belong { BelongTo case.now.net case.now.log parts.now }
-    requires ready { AreReady R.pre R.post parts.now book.now.entries }
-    requires built { IsBuilt case.now.net case.now.log parts.now.step.steps parts.now book.now.entries }
+    requires parts { ArePartsOf R.pre R.post case.now.net case.now.log parts.now book.now.entries }
     requires evidence { (k : ℕ) → faults ≡ suc k → HasEvidence case.now.net case.now.log parts.now book.now.entries (Some k) }
     requires few { faults ≤ 255 }
     ensures { IfOk result (IsRefutedBelow case.now.net case.now.log parts.now.step.steps faults book.now.entries) }
@@ -100,9 +95,7 @@ fn within<R: Fn(u32) -> u64>(
     book: &Ledger,
     bound: Option<u8>,
 ) -> Result<Refuted, Memory>
-    requires belong { BelongTo case.now.net case.now.log parts.now }
-    requires ready { AreReady R.pre R.post parts.now book.now.entries }
-    requires built { IsBuilt case.now.net case.now.log parts.now.step.steps parts.now book.now.entries }
+    requires parts { ArePartsOf R.pre R.post case.now.net case.now.log parts.now book.now.entries }
     requires evidence { HasEvidence case.now.net case.now.log parts.now book.now.entries bound }
     ensures { IfOk result (IsRefutedWithin case.now.net case.now.log parts.now.step.steps bound book.now.entries) }
 {

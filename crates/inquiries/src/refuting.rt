@@ -1,12 +1,12 @@
 // The refutation that a search leaves in its book, as a proof of its own.
 ghost use Rattle.std.specs.Prelude.{◌≡◌, true, All, IfOk};
 ghost use Rattle.std.specs.List.{list_any};
+ghost use Rattle.inquiries.specs.Begun.{ArePartsOf};
 ghost use Rattle.inquiries.specs.Formula.{counted_bound};
 ghost use Rattle.inquiries.specs.Refuted.{HasBoundColumn, HasEvidence, IsLastFinal, IsVerifiedRefutation};
 ghost use Rattle.least_faults.specs.Asking.{AreAssumed};
 ghost use Rattle.least_faults.specs.Evidence.{is_final};
 ghost use Rattle.proof_text.specs.ProofNumbers.{NumbersAscend, HasNoZero};
-ghost use Rattle.least_faults.specs.Parts.{AreReady, BelongTo, IsBuilt};
 
 use crate::formula::counted;
 use crate::question::Case;
@@ -25,9 +25,7 @@ pub fn refuting_proof<R: Fn(u32) -> u64>(
     book: &Ledger,
     bound: Option<u8>,
 ) -> Result<Proof, Memory>
-    requires belong { BelongTo case.now.net case.now.log parts.now }
-    requires ready { AreReady R.pre R.post parts.now book.now.entries }
-    requires built { IsBuilt case.now.net case.now.log parts.now.step.steps parts.now book.now.entries }
+    requires parts { ArePartsOf R.pre R.post case.now.net case.now.log parts.now book.now.entries }
     requires evidence { HasEvidence case.now.net case.now.log parts.now book.now.entries bound }
     ensures refuted { IfOk result (λ proof. IsVerifiedRefutation case.now.net case.now.log parts.now.step.steps bound book.now.entries proof) }
     ensures ascend { IfOk result (λ proof. NumbersAscend 0 proof) }

@@ -1,5 +1,5 @@
 -- What is left in the book behind what was found.
-use Rattle.std.proofs.Common.{◌≡◌, ◌+◌, ◌*◌, ◌∙◌, ℕ, List, [], ◌++◌, length, count_by, refl, sym, ap, subst, arith, append-nil}
+use Rattle.std.proofs.Common.{◌≡◌, ◌*◌, ◌∙◌, ℕ, List, [], length, count_by, refl, sym, ap, subst, arith, append-nil}
 use Rattle.des_net.specs.Network.{Net}
 use Rattle.fault_verdicts.specs.Judges.{Matter}
 use Rattle.inquiries.specs.Begun.{HasLearntWithin, HasQuestion}

@@ -9,10 +9,9 @@ ghost use Rattle.verdict_telling.specs.Whole.{TellsWhole};
 ghost use Rattle.telling.specs.Telling.{RisesExactlyIf};
 
 use crate::whole::{Told, tell_whole};
-use des_base::{EventId, Sink};
+use des_base::{EventId, Memory, Sink};
 use indep::{Indep, Table};
-use inquiries::Case;
-use least_faults::build;
+use inquiries::{Case, begin};
 use proof_ledger::Ledger;
 use sat_order::Order;
 use sat_solve::Solver;
@@ -91,9 +90,9 @@ fn tell_by_solver<T: Fn(u32, u32) -> bool, R: Fn(u32) -> u64, S: Sink>(
     ensures left { LeavesVerdicts case.now.net case.now.log steps budget book.new.entries }
     ensures failures { RisesExactlyIf (IsErrOf result Broken.Put) (S.failures out.old) (S.failures out.new) }
 {
-    match build(alloc, &case.net, &case.log, steps, test, solver, book).ok() {
-        Some(parts) => tell_whole(alloc, case, steps, budget, parts, book, out),
-        None => {
+    match begin(alloc, case, steps, test, solver, book) {
+        Ok(parts) => tell_whole(alloc, case, steps, budget, parts, book, out),
+        Err(Memory) => {
             *book = Ledger::new(alloc);
             Err(Broken::Memory)
         }

@@ -12,8 +12,8 @@ ghost use Rattle.telling.specs.Telling.{RisesExactlyIf};
 use crate::verdicts::tell_verdicts;
 use des_base::{Memory, Sink};
 use des_net::Network;
-use inquiries::Case;
-use least_faults::{Found, Parts, least};
+use inquiries::{Case, find_least};
+use least_faults::{Found, Parts};
 use proof_ledger::Ledger;
 use report::print_found;
 use std::alloc::Global;
@@ -105,11 +105,9 @@ fn tell_found<R: Fn(u32) -> u64, S: Sink>(
     ensures never_falls { S.faults out.old ≤ S.faults out.new }
     ensures failures { RisesExactlyIf (IsErrOf result Broken.Put) (S.failures out.old) (S.failures out.new) }
 {
-    let searched = least(alloc, &case.net, &case.log, parts, book, budget);
-    book.entries();
-    match searched {
+    match find_least(alloc, case, parts, book, budget) {
         Ok(found) => put_found(alloc, case, steps, found, out),
-        Err(_) => Err(Broken::Memory),
+        Err(Memory) => Err(Broken::Memory),
     }
 }
 

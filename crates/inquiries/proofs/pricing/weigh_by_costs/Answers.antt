@@ -7,15 +7,14 @@ use Rattle.inquiries.proofs.pricing.weigh_by_costs.Goals as goal
 use Rattle.std.proofs.lemmas.Result.{IfOk-weaker as ok_weaker}
 
 pub returns : goal.returns
-returns g c =
+returns g c = λ table same.
     let net = c.args.case.now.net in
     let log = c.args.case.now.log in
     let parts = c.args.parts in
     let later = c.cheapest-cheap.new.parts in
     let stored = c.args.costs.now.cost in
-    let table = c.args._table.now in
     let old = c.args.book.now.entries in
     let book = c.cheapest-cheap.new.book.entries in
     ok_weaker c.cheapest-cheap.result (HasAnsweredCosts (goal.C-post g) stored net log later c.args.budget old book) (IsPricedBy net (cost_at table) log parts.step.steps c.args.budget book)
     (λ cheap found.
-    priced_by (goal.R-pre g) (goal.R-post g) (goal.C-post g) stored net log parts later c.args.budget old book cheap table c.requires.begun c.cheapest-cheap.ensures.kept c.requires.same found c.entries.ensures.valid) c.cheapest-cheap.ensures.answered
+    priced_by (goal.R-pre g) (goal.R-post g) (goal.C-post g) stored net log parts later c.args.budget old book cheap table c.requires.begun c.cheapest-cheap.ensures.kept same found c.entries.ensures.valid) c.cheapest-cheap.ensures.answered

@@ -31,10 +31,10 @@ returns-clause-says g c =
     let book = c.assumptions.new.book.entries in
     let assumed = c.in_ok-assumed.assumed.items in
     let asked : IsAsked (goal.R-pre g) (goal.R-post g) c.args.parts.now parts c.args.book.now.entries book net log n within c.counted-bound.result assumed = record {
-      belong = begun.belong;
+      belong = begun.parts_of.belong;
       steps = refl;
       none = begun.columns;
-      begun = begun.built;
+      begun = begun.parts_of.built;
       first = record { axioms = question_axioms net log n 0; more = begun.axioms };
       keeps = c.assumptions.ensures.kept;
       ready = c.assumptions.ensures.ready;
