@@ -18,8 +18,7 @@ use Rattle.endings.specs.Endings.{HasStatus, status_of_end, status_of_kind, stat
 use Rattle.endings.specs.Files.{Loads, StopsAt, WithFile}
 use Rattle.endings.specs.Texts.{FileKind, limit_of, fault_of_text}
 use Rattle.diagnose_cli.specs.Commands.{files_of, command_of}
-use Rattle.diagnose_cli.specs.Replies.{MayReply}
-use Rattle.diagnose_cli.specs.Due.{halts, Says, Closes, InOrder, MayAnswer}
+use Rattle.diagnose_cli.specs.Due.{MayReply, halts, Says, Closes, InOrder, MayAnswer}
 use Rattle.diagnose_cli.specs.Outcomes.{IsPut, Outcome, ShowsReply}
 use Rattle.diagnose_cli.specs.Rows.{AreRead, ReadsFiles}
 use Rattle.diagnose_cli.specs.Run.{Ends}

@@ -12,8 +12,8 @@ use Rattle.diagnose_cli.specs.declared.command.Command.TheVariants.{One}
 use Rattle.diagnose_cli.specs.declared.command.Single.TheVariants.{Bench}
 use Rattle.endings.specs.declared.ending.Kind.{Kind}
 use Rattle.endings.specs.declared.stop.Stop.TheVariants.{Large}
-use Rattle.diagnose_cli.specs.Replies.{MayReply, SaysFound, SaysSummary, SaysBenched, first_line, summary_of}
-use Rattle.diagnose_cli.specs.Due.{Closes, above_limit}
+use Rattle.diagnose_cli.specs.Replies.{SaysFound, SaysSummary, SaysBenched, first_line, summary_of}
+use Rattle.diagnose_cli.specs.Due.{Closes, MayReply, above_limit}
 use Rattle.endings.specs.Transcripts.{Ending, Transcript, IsOne, once, whole}
 use Rattle.diagnose_cli.proofs.Limits.{within_limit, past_limit}
 

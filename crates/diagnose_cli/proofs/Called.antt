@@ -1,16 +1,15 @@
--- What words call keeps its bounds, and the words that it reads are there.
+-- What words spell keeps its bounds, and the words that it reads are there.
 use Rattle.std.proofs.Common.{◌≡◌, ◌≤◌, ◌<◌, ℕ, List, Bool, true, false, Option, Some, None, IfSome, if◌then◌else◌, nat_eq, nat_le, bytes_eq, codes, length, option_map, option_and_then, refl, subst, arith}
 use Rattle.std.proofs.lemmas.Bool.{and_parts, eqb-true, leb-true}
-use Rattle.std.specs.Option.{option_map_or}
 use Rattle.des_base.specs.CommandWords.{word_at}
 use Rattle.des_base.specs.Numbers.{number_of, number_up_to, up_to}
 use Rattle.gen_plant.specs.Plant.{most_units}
 use Rattle.diagnose_cli.specs.declared.command.Command.{Command}
 use Rattle.diagnose_cli.specs.declared.command.Command.TheVariants.{One, Session, Verdicts}
 use Rattle.diagnose_cli.specs.declared.command.Limits.{Limits}
-use Rattle.diagnose_cli.specs.declared.command.Question.{Question}
 use Rattle.diagnose_cli.specs.declared.command.Single.TheVariants.{Ask, GenerateModel, GenerateLog, Bench, Twin, Cheapest}
-use Rattle.diagnose_cli.specs.Commands.{ask_of, asked_by, bench_of, calls, command_of, generate_of, limits_of, most_number, most_steps, other_of, question_named, read_words, twin_of, units_of, IsWithinBounds}
+use Rattle.diagnose_cli.specs.Commands.{bench_of, calls, generate_of, read_command, read_words, twin_of, IsWithinBounds}
+use Rattle.diagnose_cli.specs.Words.{limits_of, most_number, most_steps, units_of}
 
 -- ---- what an option has, where it has something
 
@@ -25,10 +24,6 @@ map_some P f (Some x) holds = holds x refl
 then_some : {X Y : Type 0} (P : Y → Type 0) (f : X → Option Y) (o : Option X) → ((x : X) → o ≡ Some x → IfSome (f x) P) → IfSome (option_and_then f o) P
 then_some P f None holds = tt
 then_some P f (Some x) holds = holds x refl
-
-map_or_some : {X Y : Type 0} (P : Y → Type 0) (f : X → Option Y) (o : Option X) (other : Option Y) → ((x : X) → o ≡ Some x → IfSome (f x) P) → IfSome other P → IfSome (option_map_or f o other) P
-map_or_some P f None other holds others = others
-map_or_some P f (Some x) other holds others = holds x refl
 
 of_some : {X : Type 0} (P : X → Type 0) (o : Option X) (x : X) → o ≡ Some x → IfSome o P → P x
 of_some {X = X} P o x is holds = subst (λ (p : Option X). IfSome p P) is holds
@@ -67,14 +62,8 @@ module _ (words : List (List ℕ)) where
   room : (name : List ℕ) (n k : ℕ) → calls words name n ≡ true → k < n → k < length words
   room name n k called below = let count = eqb-true (length words) n (and_parts (nat_eq (length words) n) (bytes_eq (word_at words 0) name) called).0 in omega (arith, count, below)
 
-  asked : (text : List ℕ) (question : Question) → 2 < length words → IfSome (ask_of text question) Fits
-  asked text question there = map_some Fits (λ n. One (Ask n question)) (number_up_to most_steps text) (λ n is. (there, (within most_steps text n is, tt)))
-
-  asked_fits : IfSome (asked_by words) Fits
-  asked_fits =
-      if_some Fits (nat_eq (length words) 5) _ _
-      (λ five. then_some Fits (λ question. ask_of (word_at words 3) question) (question_named (word_at words 0) (word_at words 4)) (λ question is. asked (word_at words 3) question (let count = eqb-true (length words) 5 five in omega (arith, count))))
-      tt
+  five_words : nat_eq (length words) 5 ≡ true → 4 < length words
+  five_words five = let count = eqb-true (length words) 5 five in omega (arith, count)
 
   generated : (what units start : List ℕ) → 0 < length words → IfSome (generate_of what units start) Fits
   generated what units start there =
@@ -97,8 +86,8 @@ module _ (words : List (List ℕ)) where
       then_some Fits _ (number_up_to most_steps after) (λ d is_after.
       map_some Fits (λ b. One (Twin n d b)) (number_up_to most_number budget) (λ b is_budget. (there, ((within most_steps steps n is_steps, within most_steps after d is_after), tt)))))
 
-  others_fit : IfSome (other_of words) Fits
-  others_fit =
+  fits : IfSome (read_command words) Fits
+  fits =
       if_some Fits (calls words (codes "trace") 3) _ _ (λ is. (room (codes "trace") 3 2 is (omega arith), (tt, tt)))
       (if_some Fits (calls words (codes "show") 2) _ _ (λ is. (room (codes "show") 2 1 is (omega arith), (tt, tt)))
       (if_some Fits (calls words (codes "replay") 5) _ _ (λ is. map_some Fits _ (number_up_to most_steps (word_at words 4)) (λ n is_steps. (room (codes "replay") 5 3 is (omega arith), (tt, tt))))
@@ -109,11 +98,9 @@ module _ (words : List (List ℕ)) where
       (if_some Fits (calls words (codes "twin") 6) _ _ (λ is. twinned (word_at words 3) (word_at words 4) (word_at words 5) (room (codes "twin") 6 2 is (omega arith)))
       (if_some Fits (calls words (codes "cheapest") 6) _ _ (λ is. map_some Fits (λ (l : Limits). One (Cheapest l.steps l.budget)) (limits_of (word_at words 4) (word_at words 5)) (λ l is_limits. (room (codes "cheapest") 6 3 is (omega arith), (few_steps (word_at words 4) (word_at words 5) l is_limits, tt))))
       (if_some Fits (calls words (codes "verdicts") 5) _ _ (λ is. map_some Fits (λ (l : Limits). Verdicts l.steps l.budget) (limits_of (word_at words 3) (word_at words 4)) (λ l is_limits. (room (codes "verdicts") 5 2 is (omega arith), (few_steps (word_at words 3) (word_at words 4) l is_limits, tt))))
-      tt)))))))))
+      (if_some Fits (nat_eq (length words) 5) _ _ (λ five. map_some Fits (λ n. One (Ask n)) (number_up_to most_steps (word_at words 3)) (λ n is_steps. (five_words five, (within most_steps (word_at words 3) n is_steps, tt))))
+      tt))))))))))
 
-  fits : IfSome (command_of words) Fits
-  fits = map_or_some Fits (λ command. Some command) (asked_by words) (other_of words) (λ command is. of_some Fits (asked_by words) command is asked_fits) others_fit
-
--- so it is with the command that is called
-pub called_fits : (words : List (List ℕ)) (c : Command) → command_of words ≡ Some c → (read_words c < length words) × IsWithinBounds c
-called_fits words c is = of_some (Fits words) (command_of words) c is (fits words)
+-- so it is with the command that is spelled
+pub spelled_fits : (words : List (List ℕ)) (c : Command) → read_command words ≡ Some c → (read_words c < length words) × IsWithinBounds c
+spelled_fits words c is = of_some (Fits words) (read_command words) c is (fits words)

@@ -32,9 +32,8 @@ use Rattle.endings.specs.declared.stop.FaultyText.{FaultyText}
 use Rattle.endings.specs.declared.stop.Stop.{Stop}
 use Rattle.endings.specs.declared.stop.Stop.TheVariants.{Large}
 use Rattle.diagnose_cli.specs.CheapReplies.{CheapRunReadsBack, SaysCheap}
-use Rattle.diagnose_cli.specs.Due.{AnswersAfter, Closes, above_limit}
+use Rattle.diagnose_cli.specs.Due.{MayReply, AnswersAfter, Closes, above_limit}
 use Rattle.endings.specs.Files.{IsReadAs, IsText, Loads, StopsIn}
-use Rattle.diagnose_cli.specs.Replies.{MayReply}
 use Rattle.diagnose_cli.specs.Rows.{AreTold}
 use Rattle.endings.specs.Texts.{costs, fault_of_costs, limit_of}
 use Rattle.diagnose_cli.specs.FirstTwo.{IsCase}

@@ -8,7 +8,8 @@ use Rattle.diagnose_cli.specs.declared.command.Single.TheVariants.{Trace, Show, 
 use Rattle.endings.specs.declared.ending.Kind.{Kind}
 use Rattle.diagnose_cli.specs.Deciding.{Suffices}
 use Rattle.diagnose_cli.specs.Outcomes.{Outcome, ShowsReply}
-use Rattle.diagnose_cli.specs.Replies.{MayReply, SaysBenched}
+use Rattle.diagnose_cli.specs.Due.{MayReply}
+use Rattle.diagnose_cli.specs.Replies.{SaysBenched}
 use Rattle.diagnose_cli.specs.Rows.{CallsWith}
 use Rattle.diagnose_cli.specs.Run.{Ends}
 use Rattle.diagnose_cli.proofs.Answered.{between, said_over}
@@ -33,15 +34,15 @@ module _ (o : Outcome) (ends : Ends o) where
       let said = tells.says in
       found_decided (plant_net units) (plant_log units start) steps budget o.book said.found said.holds.diagnosed enough (sym (ap (λ (r : Kind × List ℕ). r.0) said.is) ∙ left_open o tells is)
 
-  pub decided_row : (c : Command) (texts : List (List ℕ)) → CallsWith o c texts → Suffices c texts → o.status ≡ 11 → ⊥
+  pub decided_row : (c : Command) (texts : List (List ℕ)) → CallsWith o c texts → Suffices c o.words texts → o.status ≡ 11 → ⊥
   decided_row (One Trace) texts asks enough is = absurd enough
   decided_row (One Show) texts asks enough is = absurd enough
   decided_row (One (Replay steps)) texts asks enough is = absurd enough
   decided_row (One Check) texts asks enough is = absurd enough
-  decided_row (One (Ask steps question)) [] asks enough is = absurd enough
-  decided_row (One (Ask steps question)) (text ∷ []) asks enough is = absurd enough
-  decided_row (One (Ask steps question)) (text ∷ alarms ∷ []) asks enough is = decided o ends steps question text alarms asks enough is
-  decided_row (One (Ask steps question)) (text ∷ alarms ∷ more ∷ texts) asks enough is = absurd enough
+  decided_row (One (Ask steps)) [] asks enough is = absurd enough
+  decided_row (One (Ask steps)) (text ∷ []) asks enough is = absurd enough
+  decided_row (One (Ask steps)) (text ∷ alarms ∷ []) asks enough is = decided o ends steps text alarms asks enough is
+  decided_row (One (Ask steps)) (text ∷ alarms ∷ more ∷ texts) asks enough is = absurd enough
   decided_row (One (GenerateModel units start)) texts asks enough is = absurd enough
   decided_row (One (GenerateLog units start)) texts asks enough is = absurd enough
   decided_row (One (Bench units start steps budget)) [] asks enough is = bench_decided units start steps budget asks enough is

@@ -11,10 +11,10 @@ use Rattle.log_order.specs.Log.{Log}
 use Rattle.proof_ledger.specs.Book.{BookEntry, axiomatic}
 use Rattle.replay.specs.QuestionSize.{variable_bound}
 use Rattle.run_decode.specs.QuestionAxioms.{question_axioms, question_built}
-use Rattle.diagnose_cli.specs.declared.command.Question.TheVariants.{Diagnose}
 use Rattle.endings.specs.declared.ending.Kind.{Kind}
 use Rattle.endings.specs.declared.ending.Kind.TheVariants.{Undecided}
-use Rattle.diagnose_cli.specs.Replies.{kind_of_found, AnswersQuestion, AnswersTo, SaysFound}
+use Rattle.diagnose_cli.specs.Questions.{diagnose_question, AnswersTo}
+use Rattle.diagnose_cli.specs.Replies.{kind_of_found, AnswersQuestion, SaysFound}
 use Rattle.diagnose_cli.proofs.RepliesReplay.{run_replays}
 
 pub answers_question : (net : Net) (log : Log) (n budget : ℕ) (book : List BookEntry) (found : Found) → IsNetwork net → IsDraft net → IsLog log → n ≤ 1000 → IsDiagnosed net log n budget book found → AnswersQuestion net log n budget book found
@@ -36,7 +36,7 @@ module _ (net : Net) (log : Log) (n budget : ℕ) (book : List BookEntry) where
       omega (arith, small, enough)
 
   -- the reply that tells what is found
-  pub answers_found : (reply : Kind × List ℕ) → SaysFound net log n budget book reply → AnswersTo (Diagnose budget) net log n book reply
+  pub answers_found : (reply : Kind × List ℕ) → SaysFound net log n budget book reply → AnswersTo diagnose_question budget net log n book reply
   answers_found reply says = record {
     says = says;
     decided = λ enough is. found_decided says.found says.holds.diagnosed enough (sym (ap (λ (r : Kind × List ℕ). r.0) says.is) ∙ is);

@@ -3,7 +3,7 @@ use Rattle.std.proofs.Common.{◌≡◌, ℕ, List, [], ◌∷◌, Option, Some,
 use Rattle.des_base.specs.CommandWords.{word_at}
 use Rattle.des_net.specs.Network.{Net}
 use Rattle.event_costs.specs.CostText.{cost_of}
-use Rattle.inquiries.specs.Begun.{HasLearntWithin, LeavesQuestion, MayLearn}
+use Rattle.inquiries.specs.Begun.{HasLearntWithin, LeavesQuestion}
 use Rattle.inquiries.specs.LeastCost.{LeavesCosts}
 use Rattle.gen_plant.specs.Plant.{plant_net, plant_log}
 use Rattle.log_csv.specs.LogText.{log_of}
@@ -12,14 +12,13 @@ use Rattle.model_text.specs.ModelFaults.{network_of}
 use Rattle.proof_ledger.specs.Book.{BookEntry}
 use Rattle.verdict_telling.specs.Left.{LeavesVerdicts}
 use Rattle.diagnose_cli.specs.declared.command.Command.{Command}
-use Rattle.diagnose_cli.specs.declared.command.Command.TheVariants.{One, Session, Verdicts}
-use Rattle.diagnose_cli.specs.declared.command.Question.{Question}
+use Rattle.diagnose_cli.specs.declared.command.Command.TheVariants.{One, Verdicts}
 use Rattle.diagnose_cli.specs.declared.command.Single.{Single}
 use Rattle.diagnose_cli.specs.declared.command.Single.TheVariants.{Ask, Bench, Twin, Cheapest}
 use Rattle.diagnose_cli.specs.Commands.{command_of}
 use Rattle.diagnose_cli.specs.Outcomes.{Outcome}
-use Rattle.diagnose_cli.specs.Replies.{budget_of}
-use Rattle.diagnose_cli.specs.Rows.{AreTold, Leaves, LeftRow}
+use Rattle.diagnose_cli.specs.Questions.{request_of}
+use Rattle.diagnose_cli.specs.Rows.{AreTold, Leaves, LeavesRequest, LeftRow}
 use Rattle.diagnose_cli.specs.FirstTwo.{IsCase}
 use Rattle.diagnose_cli.specs.TwinReplies.{LeavesOfWord}
 
@@ -41,15 +40,11 @@ module _ (held : List ℕ → Option (List ℕ)) (words : List (List ℕ)) (book
   abbrev pub LeftBy : Command → Type 0
   LeftBy c = (texts : List (List ℕ)) → AreTold held words 1 texts → Leaves c words texts book
 
-  -- a question over a model and a log leaves its axioms, and what it may have learnt
-  abbrev pub LeavesAsked : ℕ → Question → Type 0
-  LeavesAsked steps question = (text alarms : List ℕ) → AreTold held words 1 (text ∷ alarms ∷ []) → LeavesQuestion (network_of text) (log_of alarms) steps (MayLearn (budget_of question)) book
-
-  pub left_question : (steps : ℕ) (question : Question) → LeavesAsked steps question → LeftBy (One (Ask steps question))
-  left_question steps question left [] told = tt
-  left_question steps question left (text ∷ []) told = tt
-  left_question steps question left (text ∷ alarms ∷ []) told = left text alarms told
-  left_question steps question left (text ∷ alarms ∷ more ∷ texts) told = tt
+  pub left_question : (steps : ℕ) → ((text alarms : List ℕ) → AreTold held words 1 (text ∷ alarms ∷ []) → LeavesRequest (request_of words) (network_of text) (log_of alarms) steps book) → LeftBy (One (Ask steps))
+  left_question steps left [] told = tt
+  left_question steps left (text ∷ []) told = tt
+  left_question steps left (text ∷ alarms ∷ []) told = left text alarms told
+  left_question steps left (text ∷ alarms ∷ more ∷ texts) told = tt
 
   pub left_bench : (units start steps budget : ℕ) → LeavesQuestion (plant_net units) (plant_log units start) steps (HasLearntWithin budget) book → LeftBy (One (Bench units start steps budget))
   left_bench units start steps budget left [] told = left
@@ -80,14 +75,6 @@ module _ (held : List ℕ → Option (List ℕ)) (words : List (List ℕ)) (book
 
 pub none_left : (o : Outcome) → command_of o.words ≡ None → LeftRow o
 none_left o none c texts asks = let called = asks.command in cc
-
-pub session_left : (o : Outcome) (steps budget : ℕ) → command_of o.words ≡ Some (Session steps budget) → LeftRow o
-session_left o steps budget is c texts asks =
-    let same : Session steps budget ≡ c = some_same (Session steps budget) c (sym is ∙ asks.command) in
-    subst (λ (k : Command). Leaves k o.words texts o.book) same tt
-  where
-    some_same : (a b : Command) → Some a ≡ Some b → a ≡ b
-    some_same a b h = cc
 
 pub command_left : (o : Outcome) (command : Command) → command_of o.words ≡ Some command → LeftBy o.loads.held o.words o.book command → LeftRow o
 command_left o command is left c texts asks =

@@ -29,6 +29,8 @@ mod CaseAnswers
 mod TwinAnswers
 mod CheapAnswers
 mod Left
+mod Spelled
+mod Requested
 mod GenerateAnswers
 mod BenchAnswers
 mod SessionAnswers

@@ -3,7 +3,6 @@ use Rattle.std.proofs.Common.{◌≡◌, ◌≢◌, ◌∙◌, arith, ℕ, IfErr
 use Rattle.proof_ledger.specs.Book.{BookEntry}
 use Rattle.diagnose_cli.specs.declared.command.Command.{Command}
 use Rattle.diagnose_cli.specs.declared.command.Command.TheVariants.{One, Session}
-use Rattle.diagnose_cli.specs.declared.command.Question.TheVariants.{Diagnose}
 use Rattle.diagnose_cli.specs.declared.command.Single.{Single}
 use Rattle.diagnose_cli.specs.declared.command.Single.TheVariants.{Trace, Show, Replay, Check, Ask, GenerateModel, GenerateLog, Bench, Twin, Cheapest}
 use Rattle.endings.specs.declared.ending.Kind.{Kind}
@@ -24,7 +23,7 @@ use Rattle.diagnose_cli.proofs.Deciding.{decided_row}
 use Rattle.diagnose_cli.proofs.Exact.{stop_row}
 use Rattle.diagnose_cli.proofs.FailedLoads.{load_row, no_load_failed}
 use Rattle.diagnose_cli.proofs.SessionRows.{session_row}
-use Rattle.diagnose_cli.proofs.StatusRows.{refuted, explained, absent, undecided, many, decided}
+use Rattle.diagnose_cli.proofs.StatusRows.{refuted, explained, absent, undecided, many, diagnosed as decided_by}
 use Rattle.diagnose_cli.proofs.StopStatus.{above, between}
 use Rattle.diagnose_cli.proofs.TwinStatus.{alike, clear, untested, tested_by}
 use Rattle.diagnose_cli.specs.TwinRows.{TwinRows}
@@ -78,7 +77,7 @@ module _ (o : Outcome) (rose : Type 0) (speaks : Speaks (Due o.loads o.words o.b
     absent = λ steps budget text alarms asks is. absent o (answered 10 is (λ p. cc)) steps budget text alarms asks is;
     undecided = λ steps budget text alarms asks is. undecided o (answered 11 is (λ p. cc)) steps budget text alarms asks is;
     many = λ steps budget text alarms asks is. many o (answered 12 is (λ p. cc)) steps budget text alarms asks is;
-    decided = λ steps budget text alarms asks enough is. decided o (answered 11 is (λ p. cc)) steps (Diagnose budget) text alarms asks enough is;
+    decided = λ steps budget text alarms asks enough is. decided_by o (answered 11 is (λ p. cc)) steps budget text alarms asks enough is;
   }
 
   twinned : TwinRows o
@@ -110,7 +109,7 @@ module _ (o : Outcome) (rose : Type 0) (speaks : Speaks (Due o.loads o.words o.b
 
   does : Does o rose
   does = record {
-    asked = λ steps question text alarms. row_of (Ask steps question) (text ∷ alarms ∷ []);
+    asked = λ steps text alarms. row_of (Ask steps) (text ∷ alarms ∷ []);
     diagnosed = diagnosed;
     replayed = λ steps text alarms events. row_of (Replay steps) (text ∷ alarms ∷ events ∷ []);
     checked = checked;

@@ -1,18 +1,18 @@
 -- A command that has one reply, which is put whole or cut short.
-use Rattle.std.proofs.Common.{◌≡◌, inl, inr, ℕ, ◌+◌, List, [], ◌∷◌, ◌++◌, IfOk, Option, Some, None, Result, Ok, Err, MatchOption, refl, subst, sym}
+use Rattle.std.proofs.Common.{◌≡◌, inl, inr, ℕ, ◌+◌, List, [], ◌∷◌, ◌++◌, IfOk, Bool, true, false, Option, Some, None, Result, Ok, Err, MatchOption, refl}
+use Rattle.std.specs.Prelude.{cond}
 use Rattle.proof_ledger.specs.Book.{BookEntry}
-use Rattle.diagnose_cli.specs.declared.command.Command.{Command}
 use Rattle.diagnose_cli.specs.declared.command.Command.TheVariants.{One}
 use Rattle.diagnose_cli.specs.declared.command.Single.{Single}
 use Rattle.endings.specs.declared.ending.Kind.{Kind}
 use Rattle.endings.specs.declared.stop.Stop.{Stop}
 use Rattle.endings.specs.declared.stop.Stop.TheVariants.{Faulty, Usage}
 use Rattle.endings.specs.declared.stop.FaultyText.{FaultyText}
-use Rattle.diagnose_cli.specs.Commands.{command_of, files_of}
-use Rattle.diagnose_cli.specs.Due.{MayAnswer, Closes, Due, InOrder, Says, halts}
+use Rattle.diagnose_cli.specs.Commands.{files_of, is_called, read_command}
+use Rattle.diagnose_cli.specs.Due.{AnswersSpelled, MayReply, MayAnswer, Closes, Due, InOrder, Says, halts}
 use Rattle.endings.specs.Files.{Loads}
-use Rattle.diagnose_cli.specs.Replies.{MayReply}
 use Rattle.endings.specs.Texts.{FileKind, fault_of_text}
+use Rattle.diagnose_cli.proofs.Spelled.{spelled_due}
 use Rattle.endings.specs.Transcripts.{Ending, IsOne, Transcript, UnlessMemory, cut_short, once, whole}
 
 pub is_one : (P : (Kind × List ℕ) → Type 0) (reply : Kind × List ℕ) → P reply → IsOne P (whole reply)
@@ -57,8 +57,10 @@ cuts l words c book (Ok reply) h =
     in_place l words 1 (files_of (One c)) [] (Closes (One c) words book) (whole reply) (cut_short reply)
     (λ texts. past_stop (halts (One c) words texts) (whole reply) (cut_short reply) (Says (One c) words book texts (whole reply)) (Says (One c) words book texts (cut_short reply)) (cut_says c words book texts reply)) (h (λ never. cc))
 
-pub cuts_due : (l : Loads) (words : List (List ℕ)) (c : Single) (book : List BookEntry) → command_of words ≡ Some (One c) → (r : Result (Kind × List ℕ) Stop) → UnlessMemory r (MayAnswer l words (One c) book (once r)) → IfOk r (λ reply. Due l words book (Ok (cut_short reply)))
-cuts_due l words c book called (Err stop) h = tt
-cuts_due l words c book called (Ok reply) h =
-    let e : Ending = Ok (cut_short reply) in
-    subst (λ (o : Option Command). MatchOption o (e ≡ Err Usage) (λ d. MayAnswer l words d book e)) (sym called) (cuts l words c book (Ok reply) h)
+pub cuts_due : (l : Loads) (words : List (List ℕ)) (c : Single) (book : List BookEntry) → read_command words ≡ Some (One c) → (r : Result (Kind × List ℕ) Stop) → UnlessMemory r (AnswersSpelled l words (One c) book (once r)) → IfOk r (λ reply. Due l words book (Ok (cut_short reply)))
+cuts_due l words c book spelled (Err stop) h = tt
+cuts_due l words c book spelled (Ok reply) h = spelled_due words (One c) spelled l book (Ok (cut_short reply)) (by (is_called words (One c)) (h (λ never. cc)))
+  where
+    by : (b : Bool) → cond b (MayAnswer l words (One c) book (once (Ok reply))) (once (Ok reply) ≡ Err Usage) → cond b (MayAnswer l words (One c) book (Ok (cut_short reply))) (◌≡◌ {A = Ending} (Ok (cut_short reply)) (Err Usage))
+    by true answers = cuts l words c book (Ok reply) (λ never. answers)
+    by false usage = cc

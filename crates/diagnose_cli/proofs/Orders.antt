@@ -18,7 +18,7 @@ use Rattle.endings.specs.Files.{Loads, Holds, IsText, IsReadAs, IsFileFault, Sto
 use Rattle.endings.specs.Texts.{FileKind, model, log, limit_of, fault_of_text, fault_of_model}
 use Rattle.diagnose_cli.specs.FirstTwo.{AreFirstTwo, IsCase, StopsAtFirstTwo}
 use Rattle.diagnose_cli.specs.Commands.{command_of}
-use Rattle.diagnose_cli.specs.Due.{InOrder, MayAnswer, Due}
+use Rattle.diagnose_cli.specs.Due.{AnswersSpelled, InOrder, MayAnswer, Due}
 use Rattle.endings.proofs.Earlier.{stops_earlier}
 
 module _ (l : Loads) (words : List (List ℕ)) (i : ℕ) (kind : FileKind) (kinds : List FileKind) (files : List (List ℕ)) (closes : List (List ℕ) → Ending → Type 0) where
@@ -151,9 +151,5 @@ pub usage_due : (l : Loads) (words : List (List ℕ)) (book : List BookEntry) �
 usage_due l words book is = subst (λ (o : Option Command). MatchOption o (◌≡◌ {A = Ending} (Err Usage) (Err Usage)) (λ c. MayAnswer l words c book (Err Usage))) (sym is) refl
 
 -- what one command answers an equal one does
-pub due_alike : (l : Loads) (words : List (List ℕ)) (c d : Single) (book : List BookEntry) (r : Result (Kind × List ℕ) Stop) → c ≡ d → UnlessMemory r (MayAnswer l words (One c) book (once r)) → UnlessMemory r (MayAnswer l words (One d) book (once r))
-due_alike l words c d book r same h = subst (λ (e : Single). UnlessMemory r (MayAnswer l words (One e) book (once r))) same h
-
--- what a command answers is due for the words that call it
-pub due_of : (l : Loads) (words : List (List ℕ)) (c : Command) (book : List BookEntry) (r : Result (Kind × List ℕ) Stop) → command_of words ≡ Some c → UnlessMemory r (MayAnswer l words c book (once r)) → UnlessMemory r (Due l words book (once r))
-due_of l words c book r is h m = subst (λ (o : Option Command). MatchOption o (once r ≡ Err Usage) (λ d. MayAnswer l words d book (once r))) (sym is) (h m)
+pub due_alike : (l : Loads) (words : List (List ℕ)) (c d : Single) (book : List BookEntry) (r : Result (Kind × List ℕ) Stop) → c ≡ d → UnlessMemory r (AnswersSpelled l words (One c) book (once r)) → UnlessMemory r (AnswersSpelled l words (One d) book (once r))
+due_alike l words c d book r same h = subst (λ (e : Single). UnlessMemory r (AnswersSpelled l words (One e) book (once r))) same h

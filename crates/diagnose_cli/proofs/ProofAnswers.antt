@@ -15,10 +15,10 @@ use Rattle.proof_ledger.specs.declared.checker.ProofStep.{ProofStep}
 use Rattle.proof_text.specs.PrintedText.{ReadsBackAsProof, steps_text}
 use Rattle.proof_text.specs.ProofNumbers.{NumbersAscend, HasNoZero}
 use Rattle.report.specs.Replies.{EventsKnown}
-use Rattle.diagnose_cli.specs.declared.command.Question.TheVariants.{PrintProof}
 use Rattle.endings.specs.declared.ending.Kind.{Kind}
 use Rattle.endings.specs.declared.ending.Kind.TheVariants.{Nothing as NothingToSay, Undecided as LeftOpen}
-use Rattle.diagnose_cli.specs.Replies.{AnswersTo, SaysProved, TellsBelow, TellsProof, TellsRefutation, kind_of_found, reply_of_found, reply_of_proof}
+use Rattle.diagnose_cli.specs.Questions.{proof_question, AnswersTo}
+use Rattle.diagnose_cli.specs.Replies.{SaysProved, TellsBelow, TellsProof, TellsRefutation, kind_of_found, reply_of_found, reply_of_proof}
 use Rattle.diagnose_cli.proofs.Diagnosing.{answers_question, found_decided}
 use Rattle.verdict_telling.proofs.Runs.{found_known}
 use Rattle.diagnose_cli.proofs.ProofsReadBack.{tells_refutation}
@@ -116,7 +116,7 @@ module _ (net : Net) (log : AlarmLog) (n budget : ℕ) (book : List BookEntry) w
   proof_open (Undecided lo best) reply tells is = refl
 
   -- so the reply is one to the question for a proof
-  answers_proof : (reply : Kind × List ℕ) → SaysProved net log n budget book reply → AnswersTo (PrintProof budget) net log n book reply
+  answers_proof : (reply : Kind × List ℕ) → SaysProved net log n budget book reply → AnswersTo proof_question budget net log n book reply
   answers_proof reply says = record {
     says = says;
     decided = λ enough is. found_decided net log n budget book says.found says.holds.diagnosed enough (proof_open says.found reply says.tells is);
@@ -138,18 +138,18 @@ module _ (net : Net) (log : AlarmLog) (n budget : ℕ) (book : List BookEntry) (
 
   -- and each reply is one to the question
   module _ (network : IsNetwork net) (whole : IsDraft net) (log_whole : IsLog log) (few : n ≤ 1000) where
-    answers_by : (reply : Kind × List ℕ) → TellsProof net log n book says.found reply → AnswersTo (PrintProof budget) net log n book reply
+    answers_by : (reply : Kind × List ℕ) → TellsProof net log n book says.found reply → AnswersTo proof_question budget net log n book reply
     answers_by reply tells = answers_proof net log n budget book reply (record {
       found = says.found;
       holds = answers_question net log n budget book says.found network whole log_whole few says.diagnosed;
       tells = tells;
     })
 
-    pub answers_within : (bound : Option ℕ) (steps : List ProofStep) → answer ≡ Within bound steps → (reply : Kind × List ℕ) → reply ≡ reply_of_proof bound steps → ReadsBackAsProof steps (steps_text steps) → AnswersTo (PrintProof budget) net log n book reply
+    pub answers_within : (bound : Option ℕ) (steps : List ProofStep) → answer ≡ Within bound steps → (reply : Kind × List ℕ) → reply ≡ reply_of_proof bound steps → ReadsBackAsProof steps (steps_text steps) → AnswersTo proof_question budget net log n book reply
     answers_within bound steps is reply told reads = answers_by reply (told_proof net log n book bound steps reads reply told says.found (refuted_by (Within bound steps) is))
 
-    pub answers_nothing : answer ≡ Nothing → (reply : Kind × List ℕ) → reply ≡ (NothingToSay, codes "NOTHING\n") → AnswersTo (PrintProof budget) net log n book reply
+    pub answers_nothing : answer ≡ Nothing → (reply : Kind × List ℕ) → reply ≡ (NothingToSay, codes "NOTHING\n") → AnswersTo proof_question budget net log n book reply
     answers_nothing is reply told = answers_by reply (told_nothing net log n book says.found reply told (refuted_by Nothing is))
 
-    pub answers_undecided : (found : Found) → answer ≡ NotRefuted found → (reply : Kind × List ℕ) → reply ≡ reply_of_found net n found → AnswersTo (PrintProof budget) net log n book reply
+    pub answers_undecided : (found : Found) → answer ≡ NotRefuted found → (reply : Kind × List ℕ) → reply ≡ reply_of_found net n found → AnswersTo proof_question budget net log n book reply
     answers_undecided found is reply told = answers_by reply (told_undecided net log n book says.found found reply told (refuted_by (NotRefuted found) is))

@@ -21,17 +21,18 @@ use Rattle.replay.specs.Explanation.{IsAbsent}
 use Rattle.report.specs.Replies.{text_of_found}
 use Rattle.run_decode.specs.QuestionAxioms.{question_axioms}
 use Rattle.diagnose_cli.specs.declared.command.Command.TheVariants.{One}
-use Rattle.diagnose_cli.specs.declared.command.Question.{Question}
-use Rattle.diagnose_cli.specs.declared.command.Question.TheVariants.{Diagnose}
 use Rattle.diagnose_cli.specs.declared.command.Single.TheVariants.{Check, Ask}
 use Rattle.endings.specs.declared.ending.Kind.{Kind}
 use Rattle.endings.specs.declared.ending.Kind.TheVariants.{Done, Rejected, Absent as NoneThere, Undecided as LeftOpen, Many as TooMany, Nothing, Ambiguous}
 use Rattle.endings.specs.Endings.{status_of_kind}
 use Rattle.inquiries.specs.Diagnosed.{IsDiagnosed}
-use Rattle.diagnose_cli.specs.Replies.{kind_of_found, reply_of_checked, AnswersQuestion, AnswersTo, HasEnough, MayReply, SaysFound}
+use Rattle.diagnose_cli.specs.Due.{MayReply}
+use Rattle.diagnose_cli.specs.Questions.{diagnose_question, request_of, AnswersTo, HasEnough, IsRequestAnd, NamedQuestion, NoRequest, RepliesTo, Request, Requests}
+use Rattle.diagnose_cli.specs.Replies.{kind_of_found, reply_of_checked, AnswersQuestion, IsEnough, SaysFound}
 use Rattle.diagnose_cli.specs.Outcomes.{Outcome, ShowsReply}
-use Rattle.diagnose_cli.specs.Rows.{AreTold, CallsWith, TellsLeast, TellsMany, TellsUndecided}
+use Rattle.diagnose_cli.specs.Rows.{AreTold, CallsDiagnose, CallsWith, TellsLeast, TellsMany, TellsUndecided}
 use Rattle.diagnose_cli.specs.Run.{Ends}
+use Rattle.diagnose_cli.proofs.Requested.{asked_for}
 use Rattle.diagnose_cli.proofs.Answered.{AreHeld, IsStopStatus, between, said_over, same_text}
 
 -- ---- a proof that is verified
@@ -59,20 +60,21 @@ refuted o ends formula asks zero =
 -- ---- a question about a log
 
 -- over the two texts that are told
-over_texts : (o : Outcome) (steps : ℕ) (question : Question) (text alarms : List ℕ) (texts : List (List ℕ)) → AreTold o.loads.held o.words 1 (text ∷ alarms ∷ []) → AreHeld o.loads.held o.words 1 texts
-    → ShowsReply o (MayReply (Ask steps question) o.words o.book texts) → ShowsReply o (AnswersTo question (network_of text) (log_of alarms) steps o.book)
-over_texts o steps question text alarms [] there held tells = absurd tells.says
-over_texts o steps question text alarms (model ∷ []) there held tells = absurd tells.says
-over_texts o steps question text alarms (model ∷ rows ∷ []) there held tells =
-    let of_model = subst (λ (m : List ℕ). ShowsReply o (AnswersTo question (network_of m) (log_of rows) steps o.book)) (sym (same_text (o.loads.held (word_at o.words 1)) text model there.0 held.0)) tells in
-    subst (λ (a : List ℕ). ShowsReply o (AnswersTo question (network_of text) (log_of a) steps o.book)) (sym (same_text (o.loads.held (word_at o.words 2)) alarms rows there.1.0 held.1.0)) of_model
-over_texts o steps question text alarms (model ∷ rows ∷ other ∷ texts) there held tells = absurd tells.says
+over_texts : (o : Outcome) (steps : ℕ) (question : NamedQuestion) (word : question.Word) (text alarms : List ℕ) (texts : List (List ℕ)) → AreTold o.loads.held o.words 1 (text ∷ alarms ∷ []) → AreHeld o.loads.held o.words 1 texts
+    → ShowsReply o (RepliesTo (Requests question word) steps o.book texts) → ShowsReply o (AnswersTo question word (network_of text) (log_of alarms) steps o.book)
+over_texts o steps question word text alarms [] there held tells = absurd tells.says
+over_texts o steps question word text alarms (model ∷ []) there held tells = absurd tells.says
+over_texts o steps question word text alarms (model ∷ rows ∷ []) there held tells =
+    let of_model = subst (λ (m : List ℕ). ShowsReply o (AnswersTo question word (network_of m) (log_of rows) steps o.book)) (sym (same_text (o.loads.held (word_at o.words 1)) text model there.0 held.0)) tells in
+    subst (λ (a : List ℕ). ShowsReply o (AnswersTo question word (network_of text) (log_of a) steps o.book)) (sym (same_text (o.loads.held (word_at o.words 2)) alarms rows there.1.0 held.1.0)) of_model
+over_texts o steps question word text alarms (model ∷ rows ∷ other ∷ texts) there held tells = absurd tells.says
 
--- what is answered to it
-pub answer_told : (o : Outcome) (steps : ℕ) (question : Question) (text alarms : List ℕ) → Ends o → CallsWith o (One (Ask steps question)) (text ∷ alarms ∷ []) → (IsStopStatus o.status → ⊥) → ShowsReply o (AnswersTo question (network_of text) (log_of alarms) steps o.book)
-answer_told o steps question text alarms ends asks answers =
-    let over = said_over o (Ask steps question) ends asks.command answers in
-    over_texts o steps question text alarms over.texts asks.told over.held over.tells
+-- what is answered to a question that the words ask
+pub answer_told : (o : Outcome) (steps : ℕ) (question : NamedQuestion) (word : question.Word) (text alarms : List ℕ) → Ends o → request_of o.words ≡ Requests question word → CallsWith o (One (Ask steps)) (text ∷ alarms ∷ []) → (IsStopStatus o.status → ⊥)
+    → ShowsReply o (AnswersTo question word (network_of text) (log_of alarms) steps o.book)
+answer_told o steps question word text alarms ends request asks answers =
+    let over = said_over o (Ask steps) ends asks.command answers in
+    over_texts o steps question word text alarms over.texts asks.told over.held (subst (λ (r : Request). ShowsReply o (RepliesTo r steps o.book over.texts)) request over.tells)
 
 -- ---- what is found of it
 
@@ -82,7 +84,7 @@ record TellsFound (o : Outcome) (net : Net) (alarms : Log) (n budget : ℕ) : Ty
   shown : o.status ≡ status_of_kind (kind_of_found found)
   put : Took o.before o.now (text_of_found net n found)
 
-of_reply : (o : Outcome) (net : Net) (alarms : Log) (steps budget : ℕ) → ShowsReply o (AnswersTo (Diagnose budget) net alarms steps o.book) → TellsFound o net alarms steps budget
+of_reply : (o : Outcome) (net : Net) (alarms : Log) (steps budget : ℕ) → ShowsReply o (AnswersTo diagnose_question budget net alarms steps o.book) → TellsFound o net alarms steps budget
 of_reply o net alarms steps budget tells =
     let said : SaysFound net alarms steps budget o.book tells.reply = tells.says.says in
     record {
@@ -92,8 +94,8 @@ of_reply o net alarms steps budget tells =
       put = subst (λ (r : Kind × List ℕ). Took o.before o.now r.1) said.is tells.put;
     }
 
-found_told : (o : Outcome) (steps budget : ℕ) (text alarms : List ℕ) → Ends o → CallsWith o (One (Ask steps (Diagnose budget))) (text ∷ alarms ∷ []) → (IsStopStatus o.status → ⊥) → TellsFound o (network_of text) (log_of alarms) steps budget
-found_told o steps budget text alarms ends asks answers = of_reply o (network_of text) (log_of alarms) steps budget (answer_told o steps (Diagnose budget) text alarms ends asks answers)
+found_told : (o : Outcome) (steps budget : ℕ) (text alarms : List ℕ) → Ends o → CallsDiagnose o steps budget text alarms → (IsStopStatus o.status → ⊥) → TellsFound o (network_of text) (log_of alarms) steps budget
+found_told o steps budget text alarms ends asks answers = of_reply o (network_of text) (log_of alarms) steps budget (answer_told o steps diagnose_question budget text alarms ends (asked_for diagnose_question o.words (λ last. refl) budget asks.words) asks.calls answers)
 
 -- ---- by the status
 
@@ -151,28 +153,37 @@ pub left_open : {P : (Kind × List ℕ) → Type 0} (o : Outcome) (tells : Shows
 left_open o tells is = open_kind tells.reply.0 (sym is ∙ tells.shown)
 
 module _ (o : Outcome) (ends : Ends o) where
-  pub explained : (steps budget : ℕ) (text alarms : List ℕ) → CallsWith o (One (Ask steps (Diagnose budget))) (text ∷ alarms ∷ []) → o.status ≡ 0 → TellsLeast o (network_of text) (log_of alarms) steps
+  pub explained : (steps budget : ℕ) (text alarms : List ℕ) → CallsDiagnose o steps budget text alarms → o.status ≡ 0 → TellsLeast o (network_of text) (log_of alarms) steps
   explained steps budget text alarms asks is =
       let tells = found_told o steps budget text alarms ends asks (λ stop. omega (arith, is, stop.low)) in
       least_of o (network_of text) (log_of alarms) steps budget tells.found (sym is ∙ tells.shown) tells.holds.diagnosed tells.put
 
-  pub absent : (steps budget : ℕ) (text alarms : List ℕ) → CallsWith o (One (Ask steps (Diagnose budget))) (text ∷ alarms ∷ []) → o.status ≡ 10 → IsAbsent (network_of text) (log_of alarms) steps
+  pub absent : (steps budget : ℕ) (text alarms : List ℕ) → CallsDiagnose o steps budget text alarms → o.status ≡ 10 → IsAbsent (network_of text) (log_of alarms) steps
   absent steps budget text alarms asks is =
       let tells = found_told o steps budget text alarms ends asks (λ stop. between o.status _ is (omega arith) (omega arith) stop) in
       absent_of o (network_of text) (log_of alarms) steps budget tells.found (sym is ∙ tells.shown) tells.holds.diagnosed
 
-  pub undecided : (steps budget : ℕ) (text alarms : List ℕ) → CallsWith o (One (Ask steps (Diagnose budget))) (text ∷ alarms ∷ []) → o.status ≡ 11 → TellsUndecided o (network_of text) (log_of alarms) steps budget
+  pub undecided : (steps budget : ℕ) (text alarms : List ℕ) → CallsDiagnose o steps budget text alarms → o.status ≡ 11 → TellsUndecided o (network_of text) (log_of alarms) steps budget
   undecided steps budget text alarms asks is =
       let tells = found_told o steps budget text alarms ends asks (λ stop. between o.status _ is (omega arith) (omega arith) stop) in
       undecided_of o (network_of text) (log_of alarms) steps budget tells.found (sym is ∙ tells.shown) tells.holds.diagnosed tells.put
 
-  pub many : (steps budget : ℕ) (text alarms : List ℕ) → CallsWith o (One (Ask steps (Diagnose budget))) (text ∷ alarms ∷ []) → o.status ≡ 12 → TellsMany o (network_of text) (log_of alarms) steps
+  pub many : (steps budget : ℕ) (text alarms : List ℕ) → CallsDiagnose o steps budget text alarms → o.status ≡ 12 → TellsMany o (network_of text) (log_of alarms) steps
   many steps budget text alarms asks is =
       let tells = found_told o steps budget text alarms ends asks (λ stop. between o.status _ is (omega arith) (omega arith) stop) in
       many_of o (network_of text) (log_of alarms) steps budget tells.found (sym is ∙ tells.shown) tells.holds.diagnosed tells.put
 
   -- a budget that is large enough decides each question
-  pub decided : (steps : ℕ) (question : Question) (text alarms : List ℕ) → CallsWith o (One (Ask steps question)) (text ∷ alarms ∷ []) → HasEnough question (network_of text) (log_of alarms) steps → o.status ≡ 11 → ⊥
-  decided steps question text alarms asks enough is =
-      let tells = answer_told o steps question text alarms ends asks (λ stop. between o.status _ is (omega arith) (omega arith) stop) in
-      tells.says.decided enough (left_open o tells is)
+  pub decided : (steps : ℕ) (text alarms : List ℕ) → CallsWith o (One (Ask steps)) (text ∷ alarms ∷ []) → IsRequestAnd (request_of o.words) (λ question word. HasEnough question word (network_of text) (log_of alarms) steps) → o.status ≡ 11 → ⊥
+  decided steps text alarms asks enough is = by (request_of o.words) refl enough
+    where
+      by : (request : Request) → request_of o.words ≡ request → IsRequestAnd request (λ question word. HasEnough question word (network_of text) (log_of alarms) steps) → ⊥
+      by NoRequest request enough = enough
+      by (Requests question word) request enough =
+          let tells = answer_told o steps question word text alarms ends request asks (λ stop. between o.status _ is (omega arith) (omega arith) stop) in
+          tells.says.decided enough (left_open o tells is)
+
+  pub diagnosed : (steps budget : ℕ) (text alarms : List ℕ) → CallsDiagnose o steps budget text alarms → IsEnough budget (network_of text) (log_of alarms) steps → o.status ≡ 11 → ⊥
+  diagnosed steps budget text alarms asks enough is =
+      decided steps text alarms asks.calls
+      (subst (λ (r : Request). IsRequestAnd r (λ question word. HasEnough question word (network_of text) (log_of alarms) steps)) (sym (asked_for diagnose_question o.words (λ last. refl) budget asks.words)) enough) is

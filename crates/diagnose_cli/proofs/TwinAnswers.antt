@@ -30,9 +30,8 @@ use Rattle.diagnose_cli.specs.declared.command.Single.TheVariants.{Twin}
 use Rattle.endings.specs.declared.ending.Kind.{Kind}
 use Rattle.endings.specs.declared.stop.FaultyText.{FaultyText}
 use Rattle.endings.specs.declared.stop.Stop.TheVariants.{NoFault, Large}
-use Rattle.diagnose_cli.specs.Due.{Closes, above_limit, stop_by}
+use Rattle.diagnose_cli.specs.Due.{MayReply, Closes, above_limit, stop_by}
 use Rattle.endings.specs.Files.{IsReadAs}
-use Rattle.diagnose_cli.specs.Replies.{MayReply}
 use Rattle.diagnose_cli.specs.Rows.{AreTold}
 use Rattle.endings.specs.Transcripts.{Ending, Transcript, IsOne, once}
 use Rattle.diagnose_cli.specs.TwinReplies.{LeavesOfWord, SaysOfWord, SaysTwin, TwinRunsReadBack}

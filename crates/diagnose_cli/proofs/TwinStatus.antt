@@ -17,8 +17,8 @@ use Rattle.diagnose_cli.specs.declared.command.Command.TheVariants.{One}
 use Rattle.diagnose_cli.specs.declared.command.Single.TheVariants.{Twin}
 use Rattle.endings.specs.declared.ending.Kind.{Kind}
 use Rattle.endings.specs.Endings.{status_of_kind}
+use Rattle.diagnose_cli.specs.Due.{MayReply}
 use Rattle.diagnose_cli.specs.Outcomes.{Outcome, ShowsReply}
-use Rattle.diagnose_cli.specs.Replies.{MayReply}
 use Rattle.diagnose_cli.specs.Rows.{AreTold, CallsWith}
 use Rattle.diagnose_cli.specs.Run.{Ends}
 use Rattle.diagnose_cli.specs.TwinReplies.{SaysTwin, SaysOfWord, kind_of_twin}

@@ -1,48 +1,18 @@
 -- The commands, the words that call each one, and the files that it needs.
-use Rattle.std.specs.Prelude.{ℕ, ◌-◌, ◌^◌, ◌≤◌, ⊤, List, [], ◌∷◌, length, codes, Bool, ◌&&◌, nat_eq, nat_le, Option, Some, None, if◌then◌else◌, bytes_eq, option_map, option_and_then}
-use Rattle.std.specs.Option.{option_map_or}
+use Rattle.std.specs.Prelude.{ℕ, ◌≤◌, ⊤, List, [], ◌∷◌, length, codes, Bool, true, ◌&&◌, nat_eq, Option, Some, None, if◌then◌else◌, bytes_eq, option_map, option_and_then}
 use Rattle.des_base.specs.CommandWords.{word_at}
 use Rattle.des_base.specs.Numbers.{number_up_to}
 use Rattle.gen_plant.specs.Plant.{most_units}
-use Rattle.diagnose_cli.specs.declared.command.Limits.{Limits}
 use Rattle.diagnose_cli.specs.declared.command.Command.{Command}
 use Rattle.diagnose_cli.specs.declared.command.Command.TheVariants.{One, Session, Verdicts}
-use Rattle.diagnose_cli.specs.declared.command.Question.{Question}
-use Rattle.diagnose_cli.specs.declared.command.Question.TheVariants.{Diagnose, PrintCnf, PrintProof}
 use Rattle.diagnose_cli.specs.declared.command.Single.TheVariants.{Trace, Show, Replay, Check, Ask, GenerateModel, GenerateLog, Bench, Twin, Cheapest}
+use Rattle.diagnose_cli.specs.Questions.{is_request, request_of}
+use Rattle.diagnose_cli.specs.Words.{limits_of, most_number, most_steps, units_of}
 use Rattle.endings.specs.Texts.{FileKind, model, log, script, run, cnf, lrat, costs}
 
 -- this many words, of which the first is the name
 abbrev pub calls : List (List ℕ) → List ℕ → ℕ → Bool
 calls words name count = nat_eq (length words) count && bytes_eq (word_at words 0) name
-
--- the most parallel steps that a command may be asked for
-abbrev pub most_steps : ℕ
-most_steps = 1000
-
--- a budget, or the start of a plant, is any number of 64 bits
-abbrev pub most_number : ℕ
-most_number = 2 ^ 64 - 1
-
--- how many steps and which budget two words set
-abbrev pub limits_of : List ℕ → List ℕ → Option Limits
-limits_of steps budget = option_and_then (λ n. option_map (λ b. record { steps = n; budget = b }) (number_up_to most_number budget)) (number_up_to most_steps steps)
-
--- that question, within as many steps as a word says
-abbrev pub ask_of : List ℕ → Question → Option Command
-ask_of steps question = option_map (λ n. One (Ask n question)) (number_up_to most_steps steps)
-
--- the faults that a formula may be asked for
-abbrev pub most_bound : ℕ
-most_bound = 255
-
--- the bound on the faults that a word sets: `any` sets none
-abbrev pub bound_of : List ℕ → Option (Option ℕ)
-bound_of text = if bytes_eq text (codes "any") then Some None else option_map (λ k. Some k) (number_up_to most_bound text)
-
--- how many units a word asks for, at least one
-abbrev pub units_of : List ℕ → Option ℕ
-units_of text = option_and_then (λ z. if nat_le 1 z then Some z else None) (number_up_to most_units text)
 
 -- what the words ask of `generate`
 abbrev pub generate_of : List ℕ → List ℕ → List ℕ → Option Command
@@ -64,21 +34,9 @@ twin_of steps after budget =
     option_and_then (λ n.
     option_and_then (λ d. option_map (λ b. One (Twin n d b)) (number_up_to most_number budget)) (number_up_to most_steps after)) (number_up_to most_steps steps)
 
--- the question of this name about a model and a log, by the last word
-abbrev pub question_named : List ℕ → List ℕ → Option Question
-question_named name last =
-    if bytes_eq name (codes "diagnose") then option_map (λ b. Diagnose b) (number_up_to most_number last)
-    else if bytes_eq name (codes "cnf") then option_map (λ k. PrintCnf k) (bound_of last)
-    else if bytes_eq name (codes "proof") then option_map (λ b. PrintProof b) (number_up_to most_number last)
-    else None
-
--- the question that the words ask: the name, the words of model, log and steps, and a last one
-abbrev pub asked_by : List (List ℕ) → Option Command
-asked_by words = if nat_eq (length words) 5 then option_and_then (λ question. ask_of (word_at words 3) question) (question_named (word_at words 0) (word_at words 4)) else None
-
--- the command that the words call, if it is no such question
-abbrev pub other_of : List (List ℕ) → Option Command
-other_of words =
+-- The command that the words spell. Five words that spell no other spell a question, of which they are the name, the model, the log, the steps and the last word.
+abbrev pub read_command : List (List ℕ) → Option Command
+read_command words =
     if calls words (codes "trace") 3 then Some (One Trace)
     else if calls words (codes "show") 2 then Some (One Show)
     else if calls words (codes "replay") 5 then option_map (λ steps. One (Replay steps)) (number_up_to most_steps (word_at words 4))
@@ -89,15 +47,21 @@ other_of words =
     else if calls words (codes "twin") 6 then twin_of (word_at words 3) (word_at words 4) (word_at words 5)
     else if calls words (codes "cheapest") 6 then option_map (λ l. One (Cheapest l.steps l.budget)) (limits_of (word_at words 4) (word_at words 5))
     else if calls words (codes "verdicts") 5 then option_map (λ l. Verdicts l.steps l.budget) (limits_of (word_at words 3) (word_at words 4))
+    else if nat_eq (length words) 5 then option_map (λ steps. One (Ask steps)) (number_up_to most_steps (word_at words 3))
     else None
+
+-- words that spell a command call it, and a question if they ask one
+abbrev pub is_called : List (List ℕ) → Command → Bool
+is_called words (One (Ask steps)) = is_request (request_of words)
+is_called words c = true
 
 -- the command that the words call, if they call one
 abbrev pub command_of : List (List ℕ) → Option Command
-command_of words = option_map_or (λ command. Some command) (asked_by words) (other_of words)
+command_of words = option_and_then (λ c. if is_called words c then Some c else None) (read_command words)
 
 -- a question is asked for no more steps than that, and a twin question for no more to be seen
 abbrev pub HasFewSteps : Command → Type 0
-HasFewSteps (One (Ask steps question)) = steps ≤ most_steps
+HasFewSteps (One (Ask steps)) = steps ≤ most_steps
 HasFewSteps (One (Bench units start steps budget)) = steps ≤ most_steps
 HasFewSteps (One (Cheapest steps budget)) = steps ≤ most_steps
 HasFewSteps (One (Twin steps after budget)) = (steps ≤ most_steps) × (after ≤ most_steps)
@@ -122,7 +86,7 @@ files_of (One Trace) = model ∷ run ∷ []
 files_of (One Show) = model ∷ []
 files_of (One (Replay steps)) = model ∷ log ∷ run ∷ []
 files_of (One Check) = cnf ∷ lrat ∷ []
-files_of (One (Ask steps question)) = model ∷ log ∷ []
+files_of (One (Ask steps)) = model ∷ log ∷ []
 files_of (One (GenerateModel units start)) = []
 files_of (One (GenerateLog units start)) = []
 files_of (One (Bench units start steps budget)) = []
@@ -131,8 +95,9 @@ files_of (One (Cheapest steps budget)) = model ∷ log ∷ costs ∷ []
 files_of (Session steps budget) = model ∷ script ∷ []
 files_of (Verdicts steps budget) = model ∷ log ∷ []
 
--- how many words behind the first stand for themselves: those of the files, and of `twin` that of the event too
+-- how many words behind the first a command looks at when it is carried out: those of its files, of `twin` that of the event too, and of a question all
 abbrev pub read_words : Command → ℕ
+read_words (One (Ask steps)) = 4
 read_words (One (Twin steps after budget)) = 2
 read_words c = length (files_of c)
 

@@ -1,8 +1,8 @@
 -- What may come for the words of a command line: a stop by the first cause in order, what the command says, or want of memory.
-use Rattle.std.specs.Prelude.{◌≡◌, ℕ, ◌+◌, List, [], ◌∷◌, ◌++◌, length, drop, Bool, false, nat_lt, is_none, option_map, Option, Some, None, if◌then◌else◌, Err, IsOkAnd, MatchOption}
+use Rattle.std.specs.Prelude.{◌≡◌, ℕ, ◌+◌, List, [], ◌∷◌, ◌++◌, length, drop, Bool, false, cond, nat_lt, is_none, option_map, Option, Some, None, if◌then◌else◌, Err, IsOkAnd, MatchOption}
 use Rattle.des_base.specs.CommandWords.{word_at}
 use Rattle.cost_least.specs.Costs.{cost_size}
-use Rattle.event_costs.specs.CostText.{fault_event_of}
+use Rattle.event_costs.specs.CostText.{cost_of, fault_event_of}
 use Rattle.gen_plant.specs.Plant.{plant_net, plant_log}
 use Rattle.model_text.specs.ModelFaults.{network_of}
 use Rattle.least_faults.specs.declared.TheConstants.{MOST_SIZE}
@@ -13,17 +13,36 @@ use Rattle.proof_ledger.specs.Book.{BookEntry}
 use Rattle.replay.specs.QuestionSize.{question_size}
 use Rattle.diagnose_cli.specs.declared.command.Command.{Command}
 use Rattle.diagnose_cli.specs.declared.command.Command.TheVariants.{One, Session, Verdicts}
-use Rattle.diagnose_cli.specs.declared.command.Single.TheVariants.{Ask, Bench, Twin, Cheapest}
+use Rattle.diagnose_cli.specs.declared.command.Single.{Single}
+use Rattle.diagnose_cli.specs.declared.command.Single.TheVariants.{Trace, Show, Replay, Check, Ask, GenerateModel, GenerateLog, Bench, Twin, Cheapest}
+use Rattle.endings.specs.declared.ending.Kind.{Kind}
 use Rattle.endings.specs.declared.stop.Stop.{Stop}
 use Rattle.endings.specs.declared.stop.Stop.TheVariants.{Usage, Faulty, NoFault, Large}
 use Rattle.endings.specs.Transcripts.{Ending, IsOne, OrMemory, Transcript}
 use Rattle.endings.specs.Files.{Loads, WithFile}
 use Rattle.endings.specs.Texts.{FileKind, limit_of, fault_of_text}
-use Rattle.diagnose_cli.specs.Commands.{command_of, files_of}
-use Rattle.diagnose_cli.specs.Replies.{MayReply}
+use Rattle.diagnose_cli.specs.Commands.{command_of, files_of, is_called}
+use Rattle.diagnose_cli.specs.CheapReplies.{SaysCheap}
+use Rattle.diagnose_cli.specs.Questions.{RepliesTo, request_of}
+use Rattle.diagnose_cli.specs.Replies.{SaysBenched, SaysChecked, SaysModel, SaysReplayed, SaysTraced, reply_of_log}
 use Rattle.diagnose_cli.specs.SessionReplies.{IsSession}
+use Rattle.diagnose_cli.specs.TwinReplies.{SaysOfWord}
 use Rattle.diagnose_cli.specs.VerdictReplies.{IsVerdicts}
 use Rattle.twin_test.specs.Twins.{twin_size}
+
+-- the reply that a command may give by its words and over the bytes of its files, where it leaves this book
+abbrev pub MayReply : Single → List (List ℕ) → List BookEntry → List (List ℕ) → (Kind × List ℕ) → Type 0
+MayReply Trace words book (text ∷ steps ∷ []) reply = SaysTraced text steps reply
+MayReply Show words book (text ∷ []) reply = SaysModel (network_of text) reply
+MayReply (Replay steps) words book (text ∷ alarms ∷ events ∷ []) reply = SaysReplayed steps text alarms events reply
+MayReply Check words book (formula ∷ proof ∷ []) reply = SaysChecked formula proof reply
+MayReply (Ask steps) words book files reply = RepliesTo (request_of words) steps book files reply
+MayReply (GenerateModel units start) words book [] reply = SaysModel (plant_net units) reply
+MayReply (GenerateLog units start) words book [] reply = reply ≡ reply_of_log (plant_log units start)
+MayReply (Bench units start steps budget) words book [] reply = SaysBenched units start steps budget book reply
+MayReply (Twin steps after budget) words book (text ∷ []) reply = SaysOfWord (network_of text) (word_at words 2) steps after budget book reply
+MayReply (Cheapest steps budget) words book (text ∷ alarms ∷ prices ∷ []) reply = SaysCheap (network_of text) (cost_of (network_of text) prices) (log_of alarms) steps budget book reply
+MayReply _ _ _ _ reply = ⊥
 
 -- What a command may say by its words and over the bytes of its files: its one reply, those to the rows of a script, or those about a log and on each fault event.
 abbrev pub Says : Command → List (List ℕ) → List BookEntry → List (List ℕ) → Transcript → Type 0
@@ -39,7 +58,7 @@ above_limit size = if nat_lt MOST_SIZE size then Some size else None
 
 -- the size of the question that a command asks over the bytes of its files, where it is above the limit: of a session that of the empty log
 abbrev pub too_large : Command → List (List ℕ) → Option ℕ
-too_large (One (Ask steps question)) (text ∷ alarms ∷ []) = above_limit (question_size (network_of text) (log_of alarms) steps)
+too_large (One (Ask steps)) (text ∷ alarms ∷ []) = above_limit (question_size (network_of text) (log_of alarms) steps)
 too_large (One (Bench units start steps budget)) [] = above_limit (question_size (plant_net units) (plant_log units start) steps)
 too_large (One (Cheapest steps budget)) (text ∷ alarms ∷ prices ∷ []) = above_limit (cost_size (network_of text) (log_of alarms) steps)
 too_large (One (Twin steps after budget)) (text ∷ []) = above_limit (twin_size (network_of text) steps after)
@@ -78,6 +97,10 @@ MayAnswer l words c book = InOrder l words 1 (files_of c) [] (Closes c words boo
 -- the same where the first of the files are read, and these are their bytes
 abbrev pub AnswersAfter : Loads → List (List ℕ) → Command → List BookEntry → List (List ℕ) → Ending → Type 0
 AnswersAfter l words c book files = InOrder l words (length files + 1) (drop (length files) (files_of c)) files (Closes c words book)
+
+-- what may be answered to a command that the words spell: if they don't call it, that they call none
+abbrev pub AnswersSpelled : Loads → List (List ℕ) → Command → List BookEntry → Ending → Type 0
+AnswersSpelled l words c book e = cond (is_called words c) (MayAnswer l words c book e) (e ≡ Err Usage)
 
 -- what may be answered for these words with this book left, but for want of memory
 abbrev pub Due : Loads → List (List ℕ) → List BookEntry → Ending → Type 0

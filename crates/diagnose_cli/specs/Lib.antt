@@ -1,5 +1,7 @@
 pub mod FirstTwo
 pub mod ProofText
+pub mod Words
+pub mod Questions
 pub mod Commands
 pub mod TwinReplies
 pub mod CheapReplies

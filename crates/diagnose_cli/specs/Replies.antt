@@ -1,9 +1,7 @@
 -- What each command with one reply may say over the bytes of its files.
-use Rattle.std.specs.Prelude.{◌≡◌, ◌≢◌, ◌↔◌, ℕ, zero, suc, ◌+◌, ◌^◌, ◌≤◌, List, [], ◌∷◌, ◌++◌, length, take, codes, ◌==◌, Option, Some, None, IfSome, IsSomeAnd}
+use Rattle.std.specs.Prelude.{◌≡◌, ◌↔◌, ℕ, zero, suc, ◌+◌, ◌^◌, ◌≤◌, List, ◌++◌, length, take, codes, ◌==◌, Option, Some, None, IfSome}
 use Rattle.std.specs.List.{position_or_len}
-use Rattle.des_base.specs.CommandWords.{word_at}
 use Rattle.des_net.specs.Network.{Net}
-use Rattle.event_costs.specs.CostText.{cost_of}
 use Rattle.gen_plant.specs.Plant.{plant_net, plant_log}
 use Rattle.model_text.specs.ModelFaults.{network_of}
 use Rattle.model_text.specs.PrintedModel.{model_text}
@@ -32,10 +30,6 @@ use Rattle.replay.specs.declared.tracing.Traced.{Traced}
 use Rattle.replay.specs.declared.tracing.Traced.TheVariants.{Ran, Stuck}
 use Rattle.report.specs.Replies.{text_of_traced, text_of_replayed, text_of_checked, text_of_found, told_run}
 use Rattle.telling.specs.Lines.{line_with_number}
-use Rattle.diagnose_cli.specs.declared.command.Question.{Question}
-use Rattle.diagnose_cli.specs.declared.command.Question.TheVariants.{Diagnose, PrintCnf, PrintProof}
-use Rattle.diagnose_cli.specs.declared.command.Single.{Single}
-use Rattle.diagnose_cli.specs.declared.command.Single.TheVariants.{Trace, Show, Replay, Check, Ask, GenerateModel, GenerateLog, Bench, Twin, Cheapest}
 use Rattle.endings.specs.declared.ending.Kind.{Kind}
 use Rattle.endings.specs.declared.ending.Kind.TheVariants.{Done, Rejected, Absent, Undecided, Many, Nothing}
 use Rattle.inquiries.specs.Diagnosed.{IsDiagnosed}
@@ -43,8 +37,6 @@ use Rattle.inquiries.specs.Formula.{IsFormulaOf, question_formula}
 use Rattle.inquiries.specs.Refuted.{IsVerifiedRefutation}
 use Rattle.diagnose_cli.specs.ProofText.{IsCheckedText, proof_head}
 use Rattle.endings.specs.Texts.{limit_of, run}
-use Rattle.diagnose_cli.specs.CheapReplies.{SaysCheap}
-use Rattle.diagnose_cli.specs.TwinReplies.{SaysOfWord}
 
 -- a run that the network can perform is the yes of `trace`; one that gets stuck is rejected
 abbrev pub kind_of_traced : Traced → Kind
@@ -176,33 +168,9 @@ pub record SaysProved (net : Net) (alarms : AlarmLog) (n budget : ℕ) (book : L
   pub holds : AnswersQuestion net alarms n budget book found
   pub tells : TellsProof net alarms n book found reply
 
--- the budget of a question about a network and a log, where it has one, and what a reply to it says within n steps, where this book is left
-pub record Terms : Type 1 where
-  pub budget : Option ℕ
-  pub says : Net → AlarmLog → ℕ → List BookEntry → (Kind × List ℕ) → Type 0
-
--- those of each question
-abbrev pub terms_of : Question → Terms
-terms_of (Diagnose budget) = record { budget = Some budget; says = λ net alarms n book. SaysFound net alarms n budget book }
-terms_of (PrintCnf bound) = record { budget = None; says = λ net alarms n book. SaysFormula net alarms n bound book }
-terms_of (PrintProof budget) = record { budget = Some budget; says = λ net alarms n book. SaysProved net alarms n budget book }
-
--- the budget of a question, where it has one
-abbrev pub budget_of : Question → Option ℕ
-budget_of question = (terms_of question).budget
-
 -- the budget is at least 3 to the number of variables that network, log and steps allow
 abbrev pub IsEnough : ℕ → Net → AlarmLog → ℕ → Type 0
 IsEnough budget net alarms n = 3 ^ variable_bound net alarms n ≤ budget
-
--- the question has a budget, and this is large enough
-abbrev pub HasEnough : Question → Net → AlarmLog → ℕ → Type 0
-HasEnough question net alarms n = IsSomeAnd (budget_of question) (λ budget. IsEnough budget net alarms n)
-
--- The reply says what the question asks about the network and the log within n steps, where this book is left. A budget that is large enough decides.
-pub record AnswersTo (question : Question) (net : Net) (alarms : AlarmLog) (n : ℕ) (book : List BookEntry) (reply : Kind × List ℕ) : Type 0 where
-  pub says : (terms_of question).says net alarms n book reply
-  pub decided : HasEnough question net alarms n → reply.0 ≢ Undecided
 
 -- the text of a log
 abbrev pub reply_of_log : AlarmLog → Kind × List ℕ
@@ -228,17 +196,3 @@ pub record SaysSummary (units : ℕ) (net : Net) (alarms : AlarmLog) (n budget :
 -- of a generated plant
 abbrev pub SaysBenched : ℕ → ℕ → ℕ → ℕ → List BookEntry → (Kind × List ℕ) → Type 0
 SaysBenched units start steps budget book reply = SaysSummary units (plant_net units) (plant_log units start) steps budget book reply
-
--- the reply that a command may give by its words and over the bytes of its files, where it leaves this book
-abbrev pub MayReply : Single → List (List ℕ) → List BookEntry → List (List ℕ) → (Kind × List ℕ) → Type 0
-MayReply Trace words book (text ∷ steps ∷ []) reply = SaysTraced text steps reply
-MayReply Show words book (text ∷ []) reply = SaysModel (network_of text) reply
-MayReply (Replay steps) words book (text ∷ alarms ∷ events ∷ []) reply = SaysReplayed steps text alarms events reply
-MayReply Check words book (formula ∷ proof ∷ []) reply = SaysChecked formula proof reply
-MayReply (Ask steps question) words book (text ∷ alarms ∷ []) reply = AnswersTo question (network_of text) (log_of alarms) steps book reply
-MayReply (GenerateModel units start) words book [] reply = SaysModel (plant_net units) reply
-MayReply (GenerateLog units start) words book [] reply = reply ≡ reply_of_log (plant_log units start)
-MayReply (Bench units start steps budget) words book [] reply = SaysBenched units start steps budget book reply
-MayReply (Twin steps after budget) words book (text ∷ []) reply = SaysOfWord (network_of text) (word_at words 2) steps after budget book reply
-MayReply (Cheapest steps budget) words book (text ∷ alarms ∷ prices ∷ []) reply = SaysCheap (network_of text) (cost_of (network_of text) prices) (log_of alarms) steps budget book reply
-MayReply _ _ _ _ reply = ⊥

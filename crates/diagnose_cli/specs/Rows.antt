@@ -28,16 +28,15 @@ use Rattle.report.specs.Replies.{text_of_found}
 use Rattle.verdict_telling.specs.Left.{LeavesVerdicts}
 use Rattle.diagnose_cli.specs.declared.command.Command.{Command}
 use Rattle.diagnose_cli.specs.declared.command.Command.TheVariants.{One, Session, Verdicts}
-use Rattle.diagnose_cli.specs.declared.command.Question.{Question}
-use Rattle.diagnose_cli.specs.declared.command.Question.TheVariants.{Diagnose}
 use Rattle.diagnose_cli.specs.declared.command.Single.{Single}
 use Rattle.diagnose_cli.specs.declared.command.Single.TheVariants.{Trace, Show, Replay, Check, Ask, GenerateModel, GenerateLog, Bench, Twin, Cheapest}
 use Rattle.endings.specs.Texts.{FileKind, limit_of, fault_of_text}
 use Rattle.diagnose_cli.specs.Commands.{command_of, files_of}
-use Rattle.diagnose_cli.specs.Replies.{IsEnough, MayReply, budget_of}
+use Rattle.diagnose_cli.specs.Questions.{AreWordsOf, Request, IfRequest, request_of, diagnose_question}
+use Rattle.diagnose_cli.specs.Replies.{IsEnough}
 use Rattle.diagnose_cli.specs.SessionReplies.{HasReplies}
 use Rattle.diagnose_cli.specs.TwinReplies.{LeavesOfWord}
-use Rattle.diagnose_cli.specs.Due.{halts}
+use Rattle.diagnose_cli.specs.Due.{MayReply, halts}
 use Rattle.diagnose_cli.specs.Outcomes.{Outcome, IsPut, IsUnbroken, ShowsReply}
 
 -- ---- the files of a command
@@ -100,7 +99,7 @@ pub record CheckRows (o : Outcome) : Type 0 where
 
 -- so each question about a model text and a log text is answered: `diagnose`, `cnf` with the question as a formula, and `proof` with the refutation of one
 abbrev pub AskedRow : Outcome → Type 0
-AskedRow o = (steps : ℕ) (question : Question) (text alarms : List ℕ) → Row o (Ask steps question) (text ∷ alarms ∷ [])
+AskedRow o = (steps : ℕ) (text alarms : List ℕ) → Row o (Ask steps) (text ∷ alarms ∷ [])
 
 -- so `generate` answers, with a model or with a log; it has no files
 pub record GenerateRows (o : Outcome) : Type 0 where
@@ -156,19 +155,28 @@ pub record TellsUndecided (o : Outcome) (net : Net) (alarms : Log) (n budget : �
   pub known : IfSome best (λ run. IsExplanation net alarms n run × (lo < run.faults))
   pub put : Took o.before o.now (text_of_found net n (Undecided lo best))
 
+-- the words call `diagnose` with this budget, and the shelf tells these bytes of its files
+pub record CallsDiagnose (o : Outcome) (steps budget : ℕ) (text alarms : List ℕ) : Type 0 where
+  pub words : AreWordsOf diagnose_question budget o.words
+  pub calls : CallsWith o (One (Ask steps)) (text ∷ alarms ∷ [])
+
 -- By the status of `diagnose`, over whatever two texts the shelf tells. A budget of 3 to the number of variables that network, log and steps allow decides.
 pub record DiagnoseRows (o : Outcome) : Type 0 where
-  pub explained : (steps budget : ℕ) (text alarms : List ℕ) → CallsWith o (One (Ask steps (Diagnose budget))) (text ∷ alarms ∷ []) → o.status ≡ 0 → TellsLeast o (network_of text) (log_of alarms) steps
-  pub absent : (steps budget : ℕ) (text alarms : List ℕ) → CallsWith o (One (Ask steps (Diagnose budget))) (text ∷ alarms ∷ []) → o.status ≡ 10 → IsAbsent (network_of text) (log_of alarms) steps
-  pub undecided : (steps budget : ℕ) (text alarms : List ℕ) → CallsWith o (One (Ask steps (Diagnose budget))) (text ∷ alarms ∷ []) → o.status ≡ 11 → TellsUndecided o (network_of text) (log_of alarms) steps budget
-  pub many : (steps budget : ℕ) (text alarms : List ℕ) → CallsWith o (One (Ask steps (Diagnose budget))) (text ∷ alarms ∷ []) → o.status ≡ 12 → TellsMany o (network_of text) (log_of alarms) steps
-  pub decided : (steps budget : ℕ) (text alarms : List ℕ) → CallsWith o (One (Ask steps (Diagnose budget))) (text ∷ alarms ∷ []) → IsEnough budget (network_of text) (log_of alarms) steps → o.status ≢ 11
+  pub explained : (steps budget : ℕ) (text alarms : List ℕ) → CallsDiagnose o steps budget text alarms → o.status ≡ 0 → TellsLeast o (network_of text) (log_of alarms) steps
+  pub absent : (steps budget : ℕ) (text alarms : List ℕ) → CallsDiagnose o steps budget text alarms → o.status ≡ 10 → IsAbsent (network_of text) (log_of alarms) steps
+  pub undecided : (steps budget : ℕ) (text alarms : List ℕ) → CallsDiagnose o steps budget text alarms → o.status ≡ 11 → TellsUndecided o (network_of text) (log_of alarms) steps budget
+  pub many : (steps budget : ℕ) (text alarms : List ℕ) → CallsDiagnose o steps budget text alarms → o.status ≡ 12 → TellsMany o (network_of text) (log_of alarms) steps
+  pub decided : (steps budget : ℕ) (text alarms : List ℕ) → CallsDiagnose o steps budget text alarms → IsEnough budget (network_of text) (log_of alarms) steps → o.status ≢ 11
 
 -- ---- what is left in the book
 
+-- nothing, or a book whose axioms are those of a question about network and log, and no more learnt than its budget says
+abbrev pub LeavesRequest : Request → Net → Log → ℕ → List BookEntry → Type 0
+LeavesRequest request net log n book = IfRequest request (λ question word. LeavesQuestion net log n (MayLearn (question.budget word)) book)
+
 -- Of a command that asks one question: nothing, or a book whose axioms are those of the question by its words and over the bytes of its files. No more was learnt than its budget says, and by `cnf` nothing. Of `twin` and `cheapest`: nothing, or the book of an answer. Of `verdicts`: nothing, or a book that begins with the question of the log.
 abbrev pub Leaves : Command → List (List ℕ) → List (List ℕ) → List BookEntry → Type 0
-Leaves (One (Ask steps question)) words (text ∷ alarms ∷ []) book = LeavesQuestion (network_of text) (log_of alarms) steps (MayLearn (budget_of question)) book
+Leaves (One (Ask steps)) words (text ∷ alarms ∷ []) book = LeavesRequest (request_of words) (network_of text) (log_of alarms) steps book
 Leaves (One (Bench units start steps budget)) words [] book = LeavesQuestion (plant_net units) (plant_log units start) steps (HasLearntWithin budget) book
 Leaves (One (Twin steps after budget)) words (text ∷ []) book = LeavesOfWord (network_of text) (word_at words 2) steps after budget book
 Leaves (One (Cheapest steps budget)) words (text ∷ alarms ∷ prices ∷ []) book = LeavesCosts (network_of text) (cost_of (network_of text) prices) (log_of alarms) steps budget book

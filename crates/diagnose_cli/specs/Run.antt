@@ -56,7 +56,7 @@ pub record Ran (o : Outcome) (rose : Type 0) : Type 0 where
 
 -- the command asks a question
 abbrev pub is_question : Command → Bool
-is_question (One (Ask steps question)) = true
+is_question (One (Ask steps)) = true
 is_question (One (Bench units start steps budget)) = true
 is_question (One (Twin steps after budget)) = true
 is_question (One (Cheapest steps budget)) = true

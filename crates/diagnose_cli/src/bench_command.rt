@@ -10,12 +10,12 @@ ghost use Rattle.diagnose_cli.specs.Replies.{first_line};
 ghost use Rattle.diagnose_cli.specs.Due.{MayAnswer, Closes};
 ghost use Rattle.inquiries.specs.Begun.{HasLearntWithin, LeavesQuestion};
 
-use crate::asking::reply_to;
-use crate::command::{Command, Limits, Question, Single};
+use crate::asking::ask_by;
+use crate::command::{Command, Limits, Single};
 use des_base::Memory;
 use endings::{Reply, Stop};
 use gen_plant::generate;
-use inquiries::Case;
+use inquiries::{Case, LeastFaults};
 use least_faults::MOST_SIZE;
 use proof_ledger::Ledger;
 use sizing::question_size;
@@ -64,10 +64,10 @@ fn bench(
     if size > MOST_SIZE {
         return Err(Stop::Large(size));
     }
-    let question = Question::Diagnose {
+    let inquiry = LeastFaults {
         budget: limits.budget,
     };
-    let reply = reply_to(alloc, case, limits.steps, question, book)?;
+    let reply = ask_by(alloc, case, limits.steps, &inquiry, book)?;
     Ok(sum_up(alloc, units, case.log.alarms(), size, &reply)?)
 }
 

@@ -1,21 +1,33 @@
-// The command `cnf`: a question as a formula.
+// `cnf MODEL LOG N K`: what explains the log within N parallel steps as a formula, with at most K faults, or with any number where K
+// is `any`.
 ghost use Rattle.std.specs.Prelude.{◌≡◌, All, IfOk, refl};
+ghost use Rattle.diagnose_cli.specs.Questions.{cnf_question};
 ghost use Rattle.diagnose_cli.specs.Replies.{reply_of_formula};
+ghost use Rattle.diagnose_cli.specs.Words.{bound_of};
 ghost use Rattle.proof_text.specs.CnfText.{formula};
 ghost use Rattle.prop_core.specs.Clauses.{HasValues};
 
 use crate::asking::Replying;
-use des_base::Memory;
+use des_base::{Memory, read_number};
 use endings::{Kind, Reply};
 use inquiries::{Case, FormulaWithin};
 use proof_ledger::Ledger;
 use proof_text::{Cnf, print_cnf};
 use std::alloc::Global;
 
-impl Replying for FormulaWithin {
-    ghost use Rattle.diagnose_cli.specs.declared.command.Question.TheVariants.{PrintCnf};
+const BOUND_LIMIT: u64 = 255;
 
-    ghost question = { λ s. PrintCnf s.bound };
+impl Replying for FormulaWithin {
+    ghost question = { cnf_question };
+
+    ghost listed = { λ last. refl };
+
+    ghost word = { λ s. s.bound };
+
+    fn read(last: &str) -> Option<FormulaWithin> {
+        let bound = bound_of(last)?;
+        Some(FormulaWithin { bound })
+    }
 
     fn reply(
         &self,
@@ -29,6 +41,17 @@ impl Replying for FormulaWithin {
     }
 
     ghost same_budget = { λ s. refl };
+}
+
+// The bound on the faults that is asked for: `any` sets none.
+fn bound_of(text: &str) -> Option<Option<u8>>
+    ensures { result ≡ bound_of text.now }
+{
+    if text == "any" {
+        return Some(None);
+    }
+    let bound = read_number(text.as_bytes(), BOUND_LIMIT)?;
+    Some(Some(bound as u8))
 }
 
 // The reply that has the text of the formula.

@@ -1,7 +1,8 @@
-// The commands, and which one the words of a command line call.
+// The commands, and which one the words of a command line spell.
 ghost use Rattle.std.specs.Prelude.{◌≡◌, ◌<◌};
 ghost use Rattle.des_base.specs.Numbers.{number_up_to};
-ghost use Rattle.diagnose_cli.specs.Commands.{ask_of, asked_by, bench_of, bound_of, calls, command_of, generate_of, limits_of, most_number, most_steps, other_of, question_named, twin_of, units_of};
+ghost use Rattle.diagnose_cli.specs.Commands.{bench_of, calls, generate_of, read_command, twin_of};
+ghost use Rattle.diagnose_cli.specs.Words.{limits_of, most_number, most_steps, units_of};
 
 use des_base::{WordList, read_number};
 
@@ -10,20 +11,6 @@ use des_base::{WordList, read_number};
 pub struct Limits {
     pub steps: u32,
     pub budget: u64,
-}
-
-/// A question about a model and a log, with one reply.
-#[derive(Clone, Copy)]
-pub enum Question {
-    /// `diagnose MODEL LOG N BUDGET`: the least number of faults that explains the log within N parallel steps, found by a search
-    /// that may learn as many clauses as the budget says.
-    Diagnose { budget: u64 },
-    /// `cnf MODEL LOG N K`: what explains the log within N parallel steps as a formula, with at most K faults, or with any number
-    /// where K is `any`.
-    PrintCnf { bound: Option<u8> },
-    /// `proof MODEL LOG N BUDGET`: the refutation that `diagnose` finds of one fault fewer, or of any number where nothing explains
-    /// the log.
-    PrintProof { budget: u64 },
 }
 
 /// A command with one reply.
@@ -37,10 +24,10 @@ pub enum Single {
     Replay(u32),
     /// `check CNF LRAT`: does the proof refute the formula.
     Check,
-    /// A question about a model and a log, within this many parallel steps.
+    /// `NAME MODEL LOG N LAST`: the question of this name about a model and a log, within N parallel steps. Whether there is one, and
+    /// what its last word asks for, `ask_named` says.
     Ask {
         steps: u32,
-        question: Question,
     },
     /// `generate model Z START`: the model of the plant with Z units.
     GenerateModel {
@@ -74,7 +61,7 @@ pub enum Single {
     },
 }
 
-/// What the words of a command line ask for.
+/// What the words of a command line spell.
 #[derive(Clone, Copy)]
 pub enum Command {
     /// A command with one reply.
@@ -89,8 +76,6 @@ pub enum Command {
 
 const STEP_LIMIT: u64 = 1000;
 
-const BOUND_LIMIT: u64 = 255;
-
 const UNIT_LIMIT: u64 = 900;
 
 // Whether these are this many words and the first is the name.
@@ -101,42 +86,9 @@ fn is_call(words: &WordList, name: &str, count: usize) -> bool
     words.len() == count && words.word(0) == name
 }
 
-/// The command that the words call, if they call one.
-pub fn command_of(words: &WordList) -> Option<Command>
-    ensures { result ≡ command_of words.now }
-{
-    match asked_by(words) {
-        Some(command) => Some(command),
-        None => other_of(words),
-    }
-}
-
-// The question about a model and a log that the words ask.
-fn asked_by(words: &WordList) -> Option<Command>
-    ensures { result ≡ asked_by words.now }
-{
-    if words.len() != 5 {
-        return None;
-    }
-    let question = question_named(words.word(0), words.word(4))?;
-    ask_of(words.word(3), question)
-}
-
-// The question of this name, by the last word.
-fn question_named(name: &str, last: &str) -> Option<Question>
-    ensures { result ≡ question_named name.now last.now }
-{
-    match name {
-        "diagnose" => number_of(last).map(|budget| Question::Diagnose { budget }),
-        "cnf" => bound_of(last).map(|bound| Question::PrintCnf { bound }),
-        "proof" => number_of(last).map(|budget| Question::PrintProof { budget }),
-        _ => None,
-    }
-}
-
-// The command that the words call, if it is another one.
-fn other_of(words: &WordList) -> Option<Command>
-    ensures { result ≡ other_of words.now }
+/// The command that the words spell, if they spell one. Any five words that spell no other may ask a question.
+pub fn read_command(words: &WordList) -> Option<Command>
+    ensures { result ≡ read_command words.now }
 {
     if is_call(words, "trace", 3) {
         Some(Command::One(Single::Trace))
@@ -162,17 +114,12 @@ fn other_of(words: &WordList) -> Option<Command>
     } else if is_call(words, "verdicts", 5) {
         let Limits { steps, budget } = limits_of(words.word(3), words.word(4))?;
         Some(Command::Verdicts { steps, budget })
+    } else if words.len() == 5 {
+        let steps = steps_of(words.word(3))?;
+        Some(Command::One(Single::Ask { steps }))
     } else {
         None
     }
-}
-
-// That question, within as many steps as a word says.
-fn ask_of(steps: &str, question: Question) -> Option<Command>
-    ensures { result ≡ ask_of steps.now question }
-{
-    let steps = steps_of(steps)?;
-    Some(Command::One(Single::Ask { steps, question }))
 }
 
 // How many steps and which budget two words ask for.
@@ -192,22 +139,11 @@ fn steps_of(text: &str) -> Option<u32>
     Some(steps as u32)
 }
 
-// The number of 64 bits that a word spells: a budget, or the start of a plant.
-fn number_of(text: &str) -> Option<u64>
+/// The number of 64 bits that a word spells: a budget, or the start of a plant.
+pub fn number_of(text: &str) -> Option<u64>
     ensures { result ≡ number_up_to most_number text.now }
 {
     read_number(text.as_bytes(), u64::MAX)
-}
-
-// The bound on the faults that is asked for: `any` sets none.
-fn bound_of(text: &str) -> Option<Option<u8>>
-    ensures { result ≡ bound_of text.now }
-{
-    if text == "any" {
-        return Some(None);
-    }
-    let bound = read_number(text.as_bytes(), BOUND_LIMIT)?;
-    Some(Some(bound as u8))
 }
 
 // How many units are asked for.

@@ -1,11 +1,13 @@
-// The command `proof`: the refutation that `diagnose` finds.
+// `proof MODEL LOG N BUDGET`: the refutation that `diagnose` finds of one fault fewer, or of any number where nothing explains the log.
 ghost use Rattle.std.specs.Prelude.{◌≡◌, ◌++◌, All, codes, IfOk, OnOk, refl};
 ghost use Rattle.diagnose_cli.specs.ProofText.{proof_head};
+ghost use Rattle.diagnose_cli.specs.Questions.{proof_question};
 ghost use Rattle.diagnose_cli.specs.Replies.{reply_of_proof};
 ghost use Rattle.proof_text.specs.PrintedText.{ReadsBackAsProof, steps_text};
 ghost use Rattle.proof_text.specs.ProofNumbers.{NumbersAscend, HasNoZero};
 
 use crate::asking::Replying;
+use crate::command::number_of;
 use crate::diagnose_command::reply_of_found;
 use des_base::{Memory, push_decimal};
 use endings::{Kind, Reply};
@@ -15,9 +17,16 @@ use proof_text::{Proof, print_lrat};
 use std::alloc::Global;
 
 impl Replying for Refutation {
-    ghost use Rattle.diagnose_cli.specs.declared.command.Question.TheVariants.{PrintProof};
+    ghost question = { proof_question };
 
-    ghost question = { λ s. PrintProof s.budget };
+    ghost listed = { λ last. refl };
+
+    ghost word = { λ s. s.budget };
+
+    fn read(last: &str) -> Option<Refutation> {
+        let budget = number_of(last)?;
+        Some(Refutation { budget })
+    }
 
     fn reply(
         &self,

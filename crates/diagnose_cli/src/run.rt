@@ -1,8 +1,8 @@
 // All that the program does, but for where its words, files and output come from.
 ghost use Rattle.std.specs.Prelude.{◌≡◌, ◌≢◌, ◌<◌, ℕ, List, [], false, length, IfErr};
 ghost use Rattle.des_base.specs.Outside.{Rose};
-ghost use Rattle.diagnose_cli.specs.Commands.{IsWithinBounds, files_of, read_words};
-ghost use Rattle.diagnose_cli.specs.Due.{MayAnswer};
+ghost use Rattle.diagnose_cli.specs.Commands.{IsWithinBounds, files_of, is_called, read_words};
+ghost use Rattle.diagnose_cli.specs.Due.{AnswersSpelled};
 ghost use Rattle.endings.specs.Files.{loads};
 ghost use Rattle.diagnose_cli.specs.Outcomes.{outcome};
 ghost use Rattle.diagnose_cli.specs.Rows.{TraceRow, ShowRow, ReplayRow, CheckRows, AskedRow, DiagnoseRows, GenerateRows, BenchRow, SessionRow, AreTold, Leaves, LeftRow};
@@ -13,11 +13,11 @@ ghost use Rattle.diagnose_cli.specs.Run.{Does, LeavesAlone, Ran, is_question};
 ghost use Rattle.endings.specs.Transcripts.{UnlessMemory, once};
 ghost use Rattle.telling.specs.Telling.{RisesExactlyIf};
 
-use crate::asking::ask_question;
+use crate::asking::ask_named;
 use crate::bench_command::bench_command;
 use crate::cheapest_command::cheapest_command;
 use crate::check_command::check_command;
-use crate::command::{Command, Limits, Single, command_of};
+use crate::command::{Command, Limits, Single, read_command};
 use crate::generate_command::{generate_log_command, generate_model_command};
 use crate::replay_command::replay_command;
 use crate::session_command::session_command;
@@ -78,7 +78,7 @@ fn respond<F: Shelf, S: Sink>(
     ensures left { LeftRow (outcome (loads F.held F.faults shelf.old shelf.new) words.now (S.taken out.old) (S.taken out.new) book.new.entries result) }
     ensures failures { RisesExactlyIf (result ≡ 4) (S.failures out.old) (S.failures out.new) }
 {
-    match command_of(words) {
+    match read_command(words) {
         None => put_once(alloc, Err(Stop::Usage), out),
         Some(Command::Session { steps, budget }) => {
             session_command(alloc, words, shelf, Limits { steps, budget }, out, book)
@@ -93,7 +93,7 @@ fn respond<F: Shelf, S: Sink>(
     }
 }
 
-// The reply to a command that has one.
+// The reply to a command that has one, if the words that spell it call it.
 fn answer<F: Shelf>(
     alloc: Global,
     words: &WordList,
@@ -104,7 +104,8 @@ fn answer<F: Shelf>(
     requires empty { book.old.entries ≡ [] }
     requires words { read_words (Command.One command) < length words.now }
     requires bounds { IsWithinBounds (Command.One command) }
-    ensures due { UnlessMemory result (MayAnswer (loads F.held F.faults shelf.old shelf.new) words.now (Command.One command) book.new.entries (once result)) }
+    ensures due { UnlessMemory result (AnswersSpelled (loads F.held F.faults shelf.old shelf.new) words.now (Command.One command) book.new.entries (once result)) }
+    ensures not_called { is_called words.now (Command.One command) ≡ false → (shelf.new ≡ shelf.old) × (book.new ≡ book.old) }
     ensures no_load { files_of (Command.One command) ≡ [] → shelf.new ≡ shelf.old }
     ensures no_question { is_question (Command.One command) ≡ false → book.new ≡ book.old }
     ensures stopped { IfErr result (λ stop. stop ≢ Stop.Memory → book.new ≡ book.old) }
@@ -115,9 +116,7 @@ fn answer<F: Shelf>(
         Single::Show => show_command(alloc, words, shelf),
         Single::Replay(steps) => replay_command(alloc, words, shelf, steps),
         Single::Check => check_command(alloc, words, shelf),
-        Single::Ask { steps, question } => {
-            ask_question(alloc, words, shelf, steps, question, book)
-        }
+        Single::Ask { steps } => ask_named(alloc, words, shelf, steps, book),
         Single::GenerateModel { units, start } => generate_model_command(alloc, units, start),
         Single::GenerateLog { units, start } => generate_log_command(alloc, units, start),
         Single::Bench {

@@ -6,23 +6,23 @@ use Rattle.diagnose_cli.proofs.CaseAnswers.{case_answered, case_large}
 use Rattle.diagnose_cli.proofs.asking.ask.Goals as goal
 
 pub returns-then-size-gt-MOST_SIZE-clause-due : goal.returns-then-size-gt-MOST_SIZE-clause-due
-returns-then-size-gt-MOST_SIZE-clause-due c words text alarms of_net of_log _ =
-    case_large c.args.steps c.args.question text alarms c.args.case.now.net of_net c.args.case.now.log of_log words c.args.book.now.entries
+returns-then-size-gt-MOST_SIZE-clause-due g c text alarms of_net of_log _ =
+    case_large c.args.steps (g.Q.Replying.question) (g.Q.Replying.word c.args.inquiry.now) text alarms c.args.case.now.net of_net c.args.case.now.log of_log c.args.book.now.entries
     c.question_size-size.result c.question_size-size.ensures.size (omega (arith, c.if-size-gt-MOST_SIZE.true))
 
-pub returns-in_err-reply_to-clause-due : goal.returns-in_err-reply_to-clause-due
-returns-in_err-reply_to-clause-due c words text alarms of_net of_log = memory_free _ _ c.from_residual.ensures.1
+pub returns-in_err-ask_by-clause-due : goal.returns-in_err-ask_by-clause-due
+returns-in_err-ask_by-clause-due g c text alarms of_net of_log = memory_free _ _ c.from_residual.ensures.1
 
 pub returns-clause-due : goal.returns-clause-due
-returns-clause-due c words text alarms of_net of_log _ =
-    case_answered c.args.steps c.args.question text alarms c.args.case.now.net of_net c.args.case.now.log of_log
-    words c.reply_to.new.book.entries c.in_ok-reply_to.field-0 (subst (λ k. k ≤ MOST_SIZE) c.question_size-size.ensures.size (omega (arith, c.if-size-gt-MOST_SIZE.false))) c.in_ok-reply_to.ensures.replies
+returns-clause-due g c text alarms of_net of_log _ =
+    case_answered c.args.steps (g.Q.Replying.question) (g.Q.Replying.word c.args.inquiry.now) text alarms c.args.case.now.net of_net c.args.case.now.log of_log
+    c.ask_by.new.book.entries c.in_ok-ask_by.field-0 (subst (λ k. k ≤ MOST_SIZE) c.question_size-size.ensures.size (omega (arith, c.if-size-gt-MOST_SIZE.false))) c.in_ok-ask_by.ensures.replies
 
-pub reply_to-requires-clause-limits : goal.reply_to-requires-clause-limits
-reply_to-requires-clause-limits c = record {
+pub ask_by-requires-clause-limits : goal.ask_by-requires-clause-limits
+ask_by-requires-clause-limits g c = record {
   steps = c.requires.steps;
   size = subst (λ k. k ≤ MOST_SIZE) c.question_size-size.ensures.size (omega (arith, c.if-size-gt-MOST_SIZE.false));
 }
 
 pub returns-then-size-gt-MOST_SIZE-clause-left : goal.returns-then-size-gt-MOST_SIZE-clause-left
-returns-then-size-gt-MOST_SIZE-clause-left c = inl c.requires.empty
+returns-then-size-gt-MOST_SIZE-clause-left g c = inl c.requires.empty

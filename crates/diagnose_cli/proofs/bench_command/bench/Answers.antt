@@ -9,15 +9,15 @@ returns-then-size-gt-MOST_SIZE-clause-due c words start of_net of_log _ =
     large_plant c.args.units start c.args.limits.steps c.args.limits.budget words c.args.book.now.entries c.args.case.now.net of_net c.args.case.now.log of_log c.question_size-size.result c.question_size-size.ensures.size
     (omega (arith, c.if-size-gt-MOST_SIZE.true))
 
-pub reply_to-requires-clause-limits : goal.reply_to-requires-clause-limits
-reply_to-requires-clause-limits c = record {
+pub ask_by-requires-clause-limits : goal.ask_by-requires-clause-limits
+ask_by-requires-clause-limits c = record {
   steps = c.requires.steps;
   size = subst (λ k. k ≤ MOST_SIZE) c.question_size-size.ensures.size (omega (arith, c.if-size-gt-MOST_SIZE.false));
 }
 
 pub returns-clause-due : goal.returns-clause-due
 returns-clause-due c words start of_net of_log _ =
-    summed_up c.args.units start c.args.limits.steps c.args.limits.budget words c.reply_to.new.book.entries c.args.case.now.net of_net c.args.case.now.log of_log c.question_size-size.result
+    summed_up c.args.units start c.args.limits.steps c.args.limits.budget words c.ask_by.new.book.entries c.args.case.now.net of_net c.args.case.now.log of_log c.question_size-size.result
     c.in_ok-reply.reply c.in_ok-sum_up.field-0 c.alarms.result c.question_size-size.ensures.size (omega (arith, c.if-size-gt-MOST_SIZE.false)) c.alarms.ensures.count c.in_ok-reply.ensures.replies.says c.in_ok-sum_up.ensures
 
 pub returns-then-size-gt-MOST_SIZE-clause-left : goal.returns-then-size-gt-MOST_SIZE-clause-left

@@ -24,7 +24,7 @@ returns-in-Check-clause-due g c =
 
 pub returns-in-Ask-clause-due : goal.returns-in-Ask-clause-due
 returns-in-Ask-clause-due g c =
-    due_alike (loads g.F.Shelf.held g.F.Shelf.faults c.args.shelf.now c.ask_question.new.shelf) c.args.words.now (Ask c.in-Ask.steps c.in-Ask.question) c.args.command c.ask_question.new.book.entries c.ask_question.result (sym c.in-Ask.is) c.ask_question.ensures.asked.due
+    due_alike (loads g.F.Shelf.held g.F.Shelf.faults c.args.shelf.now c.ask_named.new.shelf) c.args.words.now (Ask c.in-Ask.steps) c.args.command c.ask_named.new.book.entries c.ask_named.result (sym c.in-Ask.is) c.ask_named.ensures.asked.due
 
 pub returns-in-GenerateModel-clause-due : goal.returns-in-GenerateModel-clause-due
 returns-in-GenerateModel-clause-due g c =
@@ -68,8 +68,8 @@ returns-in-GenerateLog-clause-left g c =
 pub returns-in-Ask-clause-left : goal.returns-in-Ask-clause-left
 returns-in-Ask-clause-left g c =
     let held = g.F.Shelf.held c.args.shelf.now in
-    let book = c.ask_question.new.book.entries in
-    left_so held c.args.words.now book (Ask c.in-Ask.steps c.in-Ask.question) c.args.command c.in-Ask.is (left_question held c.args.words.now book c.in-Ask.steps c.in-Ask.question c.ask_question.ensures.asked.left)
+    let book = c.ask_named.new.book.entries in
+    left_so held c.args.words.now book (Ask c.in-Ask.steps) c.args.command c.in-Ask.is (left_question held c.args.words.now book c.in-Ask.steps c.ask_named.ensures.asked.left)
 
 pub returns-in-Bench-clause-left : goal.returns-in-Bench-clause-left
 returns-in-Bench-clause-left g c =

@@ -1,9 +1,9 @@
 -- The events of what is found are known, and its run replays.
 use Rattle.std.proofs.Common.{◌≡◌, ℕ, List}
 use Rattle.std.proofs.lemmas.Result.{IfOk-weaker as ok_weaker}
-use Rattle.diagnose_cli.specs.declared.command.Question.TheVariants.{Diagnose}
 use Rattle.endings.specs.declared.ending.Kind.{Kind}
-use Rattle.diagnose_cli.specs.Replies.{AnswersTo, reply_of_found}
+use Rattle.diagnose_cli.specs.Questions.{diagnose_question, AnswersTo}
+use Rattle.diagnose_cli.specs.Replies.{reply_of_found}
 use Rattle.diagnose_cli.proofs.Diagnosing.{answers_found, answers_question}
 use Rattle.diagnose_cli.proofs.diagnose_command.LeastFaultsReplying.reply.Goals as goal
 use Rattle.verdict_telling.proofs.Runs.{found_known}
@@ -19,7 +19,7 @@ returns c =
     let budget = c.args.self.now.budget in
     let book = c.args._book.now.entries in
     let found = c.args.answer in
-    ok_weaker c.reply_of_found.result (λ (reply : Kind × List ℕ). reply ≡ reply_of_found net n found) (AnswersTo (Diagnose budget) net log n book)
+    ok_weaker c.reply_of_found.result (λ (reply : Kind × List ℕ). reply ≡ reply_of_found net n found) (AnswersTo diagnose_question budget net log n book)
     (λ reply is. answers_found net log n budget book reply (record {
       found = found;
       holds = answers_question net log n budget book found c.is_built.ensures.network c.is_built.ensures.whole c.is_whole.ensures.whole c.requires.steps c.requires.says;
