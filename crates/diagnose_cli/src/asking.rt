@@ -10,6 +10,7 @@ ghost use Rattle.inquiries.specs.Begun.{LeavesQuestion, MayLearn};
 ghost use Rattle.least_faults.specs.Parts.{IsWithinLimits};
 ghost use Rattle.log_csv.specs.LogText.{log_of};
 ghost use Rattle.model_text.specs.ModelFaults.{network_of};
+ghost use Rattle.proof_ledger.specs.Book.{BookEntry};
 
 use crate::files::fetch_case;
 use des_base::{Memory, Shelf, WordList};
@@ -20,7 +21,8 @@ use proof_ledger::Ledger;
 use sizing::question_size;
 use std::alloc::Global;
 
-/// An inquiry that answers a question about a model and a log.
+/// An inquiry that answers a question about a model and a log: which one it is (`question`), that it is listed whatever its last word
+/// (`listed`), and what that word spells (`word`).
 pub trait Replying: Inquiry {
     ghost question: { NamedQuestion };
 
@@ -39,11 +41,10 @@ pub trait Replying: Inquiry {
         case: &Case,
         steps: u32,
         answer: Self::Answer,
-        book: &Ledger,
     ) -> Result<Reply, Memory>
         requires steps { steps ≤ MOST_STEPS }
-        requires says { Self.says self.now case.now.net case.now.log steps book.now.entries answer }
-        ensures { IfOk result (AnswersTo question (word self.now) case.now.net case.now.log steps book.now.entries) };
+        requires answers { ((book : List BookEntry) × Self.says self.now case.now.net case.now.log steps book answer) }
+        ensures { (book : List BookEntry) → Self.says self.now case.now.net case.now.log steps book answer → IfOk result (AnswersTo question (word self.now) case.now.net case.now.log steps book) };
 
     ghost same_budget: { (s : Self) → question.budget (word s) ≡ Self.budget s };
 }
@@ -150,5 +151,5 @@ pub fn ask_by<Q: Replying>(
     ensures left { LeavesQuestion case.now.net case.now.log steps (MayLearn (Q.question.budget (Q.word inquiry.now))) book.new.entries }
 {
     let answer = pose(alloc, case, steps, inquiry, book)?;
-    inquiry.reply(alloc, case, steps, answer, book)
+    inquiry.reply(alloc, case, steps, answer)
 }

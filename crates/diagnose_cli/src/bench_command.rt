@@ -1,5 +1,5 @@
 // The command `bench`: what is found of a generated plant, summed up.
-ghost use Rattle.std.specs.Prelude.{◌≡◌, ◌≢◌, ◌≤◌, ◌==◌, ◌++◌, ℕ, List, [], IfErr, IfOk, codes, length, string_bytes};
+ghost use Rattle.std.specs.Prelude.{◌≡◌, ◌≢◌, ◌≤◌, ◌==◌, ◌++◌, ℕ, List, [], IfErr, IfOk, codes, length};
 ghost use Rattle.std.specs.List.{position_or_len};
 ghost use Rattle.gen_plant.specs.Plant.{most_units, plant_net, plant_log};
 ghost use Rattle.telling.specs.Lines.{line_with_number};

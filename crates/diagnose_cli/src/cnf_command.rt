@@ -11,7 +11,6 @@ use crate::asking::Replying;
 use des_base::{Memory, read_number};
 use endings::{Kind, Reply};
 use inquiries::{Case, FormulaWithin};
-use proof_ledger::Ledger;
 use proof_text::{Cnf, print_cnf};
 use std::alloc::Global;
 
@@ -35,7 +34,6 @@ impl Replying for FormulaWithin {
         _case: &Case,
         _steps: u32,
         answer: Cnf,
-        _book: &Ledger,
     ) -> Result<Reply, Memory> {
         reply_of_formula(alloc, &answer)
     }

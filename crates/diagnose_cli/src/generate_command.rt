@@ -1,6 +1,6 @@
 // The commands `generate model` and `generate log`: the texts of a generated plant.
 ghost use Rattle.std.specs.Prelude.{◌≡◌, ◌≤◌, ℕ, List, IfOk};
-ghost use Rattle.gen_plant.specs.Plant.{most_units, plant_net, plant_log};
+ghost use Rattle.gen_plant.specs.Plant.{most_units};
 ghost use Rattle.proof_ledger.specs.Book.{BookEntry};
 ghost use Rattle.endings.specs.Files.{Loads};
 ghost use Rattle.endings.specs.Transcripts.{UnlessMemory, once};

@@ -12,7 +12,6 @@ use crate::diagnose_command::reply_of_found;
 use des_base::{Memory, push_decimal};
 use endings::{Kind, Reply};
 use inquiries::{Case, Refutation, Refuted};
-use proof_ledger::Ledger;
 use proof_text::{Proof, print_lrat};
 use std::alloc::Global;
 
@@ -34,7 +33,6 @@ impl Replying for Refutation {
         case: &Case,
         steps: u32,
         answer: Refuted,
-        _book: &Ledger,
     ) -> Result<Reply, Memory> {
         case.net.is_built();
         case.log.is_whole();

@@ -9,15 +9,15 @@ use Rattle.diagnose_cli.specs.Replies.{reply_of_formula}
 use Rattle.diagnose_cli.proofs.cnf_command.FormulaWithinReplying.reply.Goals as goal
 
 pub reply_of_formula-requires : goal.reply_of_formula-requires
-reply_of_formula-requires c = c.requires.says.known
+reply_of_formula-requires c = c.requires.answers.1.known
 
 pub returns : goal.returns
-returns c =
+returns c book says =
     let cnf = c.args.answer in
     let asked = formula cnf.vars cnf.clauses.clauses in
     ok_weaker c.reply_of_formula.result (λ (reply : Kind × List ℕ). reply ≡ reply_of_formula asked)
-    (AnswersTo cnf_question c.args.self.now.bound c.args._case.now.net c.args._case.now.log c.args._steps c.args._book.now.entries)
+    (AnswersTo cnf_question c.args.self.now.bound c.args._case.now.net c.args._case.now.log c.args._steps book)
     (λ reply is. record {
-      says = record { asked = asked; holds = c.requires.says; is = is; again = λ keeps. printed_formula asked keeps.0 keeps.1 c.requires.says.known };
+      says = record { asked = asked; holds = says; is = is; again = λ keeps. printed_formula asked keeps.0 keeps.1 says.known };
       decided = λ enough. absurd enough;
     }) c.reply_of_formula.ensures
