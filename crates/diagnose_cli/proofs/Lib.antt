@@ -1,5 +1,6 @@
 mod Orders
 mod Called
+mod Vectors
 mod FailedLoads
 mod Exact
 mod Answered
