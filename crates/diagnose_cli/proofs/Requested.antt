@@ -1,8 +1,9 @@
 -- Words that ask a question, or none.
-use Rattle.std.proofs.Common.{◌≡◌, ◌∙◌, ℕ, List, None, Err, ap, refl, subst, sym}
+use Rattle.std.proofs.Common.{◌≡◌, ◌∙◌, true, false, ℕ, List, Option, Err, ap, refl, subst, sym}
+use Rattle.std.specs.Prelude.{option_map}
 use Rattle.des_base.specs.CommandWords.{word_at}
 use Rattle.diagnose_cli.specs.Asking.{AnswersRequest, IsAnswerDue}
-use Rattle.diagnose_cli.specs.Questions.{named_questions, request_among, request_by, request_of, AreWordsOf, NamedQuestion, NoRequest, Request, Requests}
+use Rattle.diagnose_cli.specs.Questions.{is_request, named_questions, request_among, request_by, request_of, AreWordsOf, NamedQuestion, NoRequest, Request, Requests}
 use Rattle.diagnose_cli.specs.Rows.{LeavesRequest}
 use Rattle.endings.specs.Files.{Loads}
 use Rattle.endings.specs.declared.stop.Stop.TheVariants.{Usage}
@@ -19,8 +20,13 @@ module _ (question : NamedQuestion) (words : List (List ℕ)) (listed : (last : 
   pub asked_for : (word : question.Word) → AreWordsOf question word words → request_of words ≡ Requests question word
   asked_for word are = asked_by_name are.name ∙ ap (request_by question) are.last
 
-  pub asked_none : word_at words 0 ≡ question.name → question.spelled (word_at words 4) ≡ None → request_of words ≡ NoRequest
-  asked_none name spelled = asked_by_name name ∙ ap (request_by question) spelled
+  -- so they do by what is read of the last one
+  pub asked_read : {S : Type 0} (value : S → question.Word) (read : Option S) (last : List ℕ) → word_at words 0 ≡ question.name → last ≡ word_at words 4 → option_map value read ≡ question.spelled last → request_of words ≡ request_by question (option_map value read)
+  asked_read value read last name is spelled = asked_by_name name ∙ ap (λ (l : List ℕ). request_by question (question.spelled l)) (sym is) ∙ ap (request_by question) (sym spelled)
+
+-- a question that is asked is one
+pub never_unasked : (request : Request) (question : NamedQuestion) (word : question.Word) → request ≡ Requests question word → is_request request ≡ false → ⊥
+never_unasked _ question word is none = let never : true ≡ false = sym (ap is_request is) ∙ none in cc
 
 -- that the words call no command is due where they ask none
 pub usage_for : (l : Loads) (words : List (List ℕ)) (steps : ℕ) (request : Request) (book : List BookEntry) → request ≡ NoRequest → IsAnswerDue l words steps request book (Err Usage)

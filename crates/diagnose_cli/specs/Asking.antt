@@ -15,11 +15,11 @@ use Rattle.endings.specs.Texts.{log, model}
 use Rattle.diagnose_cli.specs.Rows.{AreTold, LeavesRequest}
 use Rattle.endings.specs.Transcripts.{Ending, IsOne, UnlessMemory, once}
 
--- after its two files a question is too large, or it is replied to
+-- what `Closes` says of a question that words ask, for any request: after its two files it is too large, or it is replied to
 abbrev pub ClosesRequest : Request → ℕ → List BookEntry → List (List ℕ) → Ending → Type 0
 ClosesRequest request steps book files e = MatchOption (option_map (λ n. Large n) (too_large (One (Ask steps)) files)) (IsOkAnd e (IsOne (RepliesTo request steps book files))) (λ stop. e ≡ Err stop)
 
--- by its two files and so; where nothing is asked, that the words call no command
+-- so `AnswersSpelled`: by its two files in order; where nothing is asked, that the words call no command
 abbrev pub AnswersRequest : Loads → List (List ℕ) → ℕ → Request → List BookEntry → Ending → Type 0
 AnswersRequest l words steps request book e = cond (is_request request) (InOrder l words 1 (model ∷ log ∷ []) [] (ClosesRequest request steps book) e) (e ≡ Err Usage)
 

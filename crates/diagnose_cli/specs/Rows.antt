@@ -97,7 +97,7 @@ pub record CheckRows (o : Outcome) : Type 0 where
   pub checked : (formula proof : List ℕ) → Row o Check (formula ∷ proof ∷ [])
   pub refuted : (formula : List ℕ) → CallsWith o (One Check) (formula ∷ []) → o.status ≡ 0 → IsUnsatisfiable (formula_of formula).clauses
 
--- so each question about a model text and a log text is answered: `diagnose`, `cnf` with the question as a formula, and `proof` with the refutation of one
+-- so the question that the words ask is answered, over a model text and a log text
 abbrev pub AskedRow : Outcome → Type 0
 AskedRow o = (steps : ℕ) (text alarms : List ℕ) → Row o (Ask steps) (text ∷ alarms ∷ [])
 
@@ -174,7 +174,7 @@ pub record DiagnoseRows (o : Outcome) : Type 0 where
 abbrev pub LeavesRequest : Request → Net → Log → ℕ → List BookEntry → Type 0
 LeavesRequest request net log n book = IfRequest request (λ question word. LeavesQuestion net log n (MayLearn (question.budget word)) book)
 
--- Of a command that asks one question: nothing, or a book whose axioms are those of the question by its words and over the bytes of its files. No more was learnt than its budget says, and by `cnf` nothing. Of `twin` and `cheapest`: nothing, or the book of an answer. Of `verdicts`: nothing, or a book that begins with the question of the log.
+-- Of a command that asks one question: nothing, or a book whose axioms are those of the question by its words and over the bytes of its files. No more was learnt than its budget says, and without one nothing. Of `twin` and `cheapest`: nothing, or the book of an answer. Of `verdicts`: nothing, or a book that begins with the question of the log.
 abbrev pub Leaves : Command → List (List ℕ) → List (List ℕ) → List BookEntry → Type 0
 Leaves (One (Ask steps)) words (text ∷ alarms ∷ []) book = LeavesRequest (request_of words) (network_of text) (log_of alarms) steps book
 Leaves (One (Bench units start steps budget)) words [] book = LeavesQuestion (plant_net units) (plant_log units start) steps (HasLearntWithin budget) book

@@ -63,7 +63,8 @@ pub fn ask_named<F: Shelf>(
     requires empty { book.old.entries ≡ [] }
     ensures asked { IsAnswerDue (loads F.held F.faults shelf.old shelf.new) words.now steps (request_of words.now) book.new.entries result }
     ensures stopped { IfErr result (λ stop. stop ≢ Stop.Memory → book.new ≡ book.old) }
-    ensures not_asked { is_request (request_of words.now) ≡ false → (shelf.new ≡ shelf.old) × (book.new ≡ book.old) }
+    ensures unasked_shelf { is_request (request_of words.now) ≡ false → shelf.new ≡ shelf.old }
+    ensures unasked_book { is_request (request_of words.now) ≡ false → book.new ≡ book.old }
 {
     match words.word(0) {
         "diagnose" => ask_as::<LeastFaults, F>(alloc, words, shelf, steps, book),
@@ -87,7 +88,8 @@ fn ask_as<Q: Replying + Drop, F: Shelf>(
     requires empty { book.old.entries ≡ [] }
     ensures asked { IsAnswerDue (loads F.held F.faults shelf.old shelf.new) words.now steps (request_of words.now) book.new.entries result }
     ensures stopped { IfErr result (λ stop. stop ≢ Stop.Memory → book.new ≡ book.old) }
-    ensures not_asked { is_request (request_of words.now) ≡ false → (shelf.new ≡ shelf.old) × (book.new ≡ book.old) }
+    ensures unasked_shelf { is_request (request_of words.now) ≡ false → shelf.new ≡ shelf.old }
+    ensures unasked_book { is_request (request_of words.now) ≡ false → book.new ≡ book.old }
 {
     match Q::read(words.word(4)) {
         Some(inquiry) => ask_question(alloc, words, shelf, steps, &inquiry, book),

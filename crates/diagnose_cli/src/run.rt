@@ -105,7 +105,8 @@ fn answer<F: Shelf>(
     requires words { read_words (Command.One command) < length words.now }
     requires bounds { IsWithinBounds (Command.One command) }
     ensures due { UnlessMemory result (AnswersSpelled (loads F.held F.faults shelf.old shelf.new) words.now (Command.One command) book.new.entries (once result)) }
-    ensures not_called { is_called words.now (Command.One command) ≡ false → (shelf.new ≡ shelf.old) × (book.new ≡ book.old) }
+    ensures uncalled_shelf { is_called words.now (Command.One command) ≡ false → shelf.new ≡ shelf.old }
+    ensures uncalled_book { is_called words.now (Command.One command) ≡ false → book.new ≡ book.old }
     ensures no_load { files_of (Command.One command) ≡ [] → shelf.new ≡ shelf.old }
     ensures no_question { is_question (Command.One command) ≡ false → book.new ≡ book.old }
     ensures stopped { IfErr result (λ stop. stop ≢ Stop.Memory → book.new ≡ book.old) }

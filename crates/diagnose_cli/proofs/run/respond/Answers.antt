@@ -74,8 +74,8 @@ returns-in-Some-One-clause-left_alone g c =
     let command = One c.in-Some-One.command in
     let spelled : read_command words ≡ Some command = sym c.read_command.ensures ∙ c.in-Some-One.is ∙ ap Some c.in-Some-One.field-0-is in
     record {
-      no_load = either_way words command spelled (λ o. IfSome o (λ d. files_of d ≡ []) → c.answer-ending.new.shelf ≡ c.args.shelf.now) (λ called. c.answer-ending.ensures.no_load) (λ called none. (c.answer-ending.ensures.not_called called).0);
-      no_question = either_way words command spelled (λ o. IfSome o (λ d. is_question d ≡ false) → c.answer-ending.new.book ≡ c.args.book.now) (λ called. c.answer-ending.ensures.no_question) (λ called none. (c.answer-ending.ensures.not_called called).1);
+      no_load = either_way words command spelled (λ o. IfSome o (λ d. files_of d ≡ []) → c.answer-ending.new.shelf ≡ c.args.shelf.now) (λ called. c.answer-ending.ensures.no_load) (λ called none. c.answer-ending.ensures.uncalled_shelf called);
+      no_question = either_way words command spelled (λ o. IfSome o (λ d. is_question d ≡ false) → c.answer-ending.new.book ≡ c.args.book.now) (λ called. c.answer-ending.ensures.no_question) (λ called none. c.answer-ending.ensures.uncalled_book called);
       stopped = stop_left c.answer-ending.result _ _ _ _ _ c.put_once-in-Some-One.ensures.puts c.answer-ending.ensures.stopped;
     }
 
