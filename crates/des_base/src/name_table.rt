@@ -4,28 +4,28 @@ ghost use Rattle.des_base.specs.Names.{place_of, AreNames};
 
 use crate::memory::Memory;
 use crate::name::Name;
+use indexmap::IndexMap;
 use std::alloc::Global;
-use std::collections::HashMap;
 use std::marker::Model;
 
 /// Names in the order in which they were added, found by their bytes.
 #[derive(Drop)]
 pub struct NameTable {
-    names: Vec<Name>,
-    places: HashMap<Vec<u8>, u32>,
+    table: IndexMap<Vec<u8>, Name>,
     alloc: Global,
 }
 
 impl Model for NameTable {
     ghost use Rattle.std.specs.Prelude.{List, ℕ};
+    ghost use Rattle.indexmap.specs.IndexMap.{values};
     ghost use Rattle.des_base.specs.Names.{AreNames};
-    ghost use Rattle.des_base.specs.Entries.{HasPlaces};
+    ghost use Rattle.des_base.specs.Entries.{KeysAreNames};
 
     ghost Value = { List (List ℕ) };
 
-    ghost view = { λ a. a.names.items };
+    ghost view = { λ a. values a.table };
 
-    ghost invariant = { λ a. HasPlaces a.places.entries a.names.items × AreNames a.names.items };
+    ghost invariant = { λ a. KeysAreNames a.table.entries × AreNames (values a.table) };
 }
 
 impl NameTable {
@@ -34,8 +34,7 @@ impl NameTable {
         ensures { result ≡ [] }
     {
         NameTable {
-            names: Vec::new(alloc),
-            places: HashMap::new(alloc),
+            table: IndexMap::new(alloc),
             alloc,
         }
     }
@@ -45,7 +44,7 @@ impl NameTable {
         ensures len { result ≡ length self.now }
         ensures names { AreNames self.now }
     {
-        self.names.len() as u32
+        self.table.len() as u32
     }
 
     /// The place of the name with this text.
@@ -53,8 +52,8 @@ impl NameTable {
         ensures place { result ≡ place_of text.now self.now }
         ensures within { IfSome result (λ place. place < length self.now) }
     {
-        match self.places.get(text) {
-            Some(place) => Some(*place),
+        match self.table.get_index_of(text) {
+            Some(place) => Some(place as u32),
             None => None,
         }
     }
@@ -64,7 +63,10 @@ impl NameTable {
         requires { place < length self.now }
         ensures { slice_get self.now place ≡ Some result.now }
     {
-        &self.names[place as usize]
+        match self.table.get_index(place as usize) {
+            Some((_, name)) => name,
+            None => unreachable!(),
+        }
     }
 
     /// Adds a name that isn't there, in the last place.
@@ -75,11 +77,9 @@ impl NameTable {
         ensures place { IfOk result (λ place. place ≡ length self.old) }
         ensures err { OnErr result (self.new ≡ self.old) }
     {
-        let place = self.names.len() as u32;
+        let place = self.table.len() as u32;
         let key = Vec::from_slice(self.alloc, name.as_str().as_bytes())?;
-        self.names.reserve(1)?;
-        self.places.insert(key, place)?;
-        self.names.push_reserved(name);
+        self.table.insert(key, name)?;
         Ok(place)
     }
 }

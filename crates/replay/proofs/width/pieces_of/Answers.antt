@@ -15,7 +15,7 @@ event-event-requires c = subst (λ e. e < length c.args.net.now.events) (sym c.n
 
 -- the parts are those of the network's event
 parts_are : (c : goal.After-take_event-pieces) → c.as_slice.result.now ≡ parts_of c.args.net.now c.number-item.result
-parts_are c = c.as_slice.ensures.value ∙ ap (λ (e : Event). e.parts) (c.event.view_is ∙ c.event-event.ensures)
+parts_are c = c.as_slice.ensures ∙ ap (λ (e : Event). e.parts) (c.event.view_is ∙ c.event-event.ensures)
 
 pub loop-number-preserved : goal.loop-number-preserved
 loop-number-preserved c = Standing-step c.args.net.now c.args.events.now c.loop-number.last.items c.take_event-pieces.new.last.items c.loop-number.pieces c.take_event-pieces.result c.loop-number.number-index c.number-item.result c.as_slice.result.now
