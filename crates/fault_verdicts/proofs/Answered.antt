@@ -9,9 +9,9 @@ use Rattle.des_net.specs.Network.{Net, IsNetwork}
 use Rattle.fault_verdicts.proofs.Asking.{HasPosed, has_posed}
 use Rattle.fault_verdicts.proofs.Events.{few_true, run_has, true_run_of}
 use Rattle.fault_verdicts.proofs.Going.{belong_on, ready_after_search}
-use Rattle.fault_verdicts.proofs.Judged.{open_found, possible_found, refuted_found}
+use Rattle.fault_verdicts.proofs.Judged.{asked_beside, open_found, possible_found, refuted_found}
 use Rattle.fault_verdicts.specs.Asked.{some_step_clauses}
-use Rattle.fault_verdicts.specs.Judged.{IsBestRun, IsJudged, IsVerdict}
+use Rattle.fault_verdicts.specs.Judged.{IsBestRun, IsJudged, IsQuestionAbout, IsVerdict}
 use Rattle.fault_verdicts.specs.Judging.{AreAssumedOf, IsSolvedAbout, IsSaidBy, IsVerdictShown, KeepsStepsAndLog, bound_for, verdict_of}
 use Rattle.fault_verdicts.specs.declared.answer.Verdict.{Verdict}
 use Rattle.fault_verdicts.specs.declared.answer.Verdict.TheVariants.{Possible, Open}
@@ -122,6 +122,7 @@ module _ {R : Type 0} (may : R → ℕ → Type 0) (gives : R → ℕ → ℕ �
   with_verdict : (verdict : Verdict) → IsVerdict (axioms_of new) (clauses_of new) old is.searching.since net log parts.step.steps k e before first verdict → IsVerdictShown net log parts.step.steps k e first before after old new verdict
   with_verdict verdict found = record {
     searching = is.searching;
+    asked = record { question = has.question; asked = asked_beside first e has.question there told has.is_for; assumed = is.assumed; posed = has.posed };
     found = found;
   }
 
@@ -177,6 +178,7 @@ judged net log n k e budget left first old opened asked new verdict begins close
   unmarked = is.searching.unmarked;
   within = (let paid = is.searching.paid in omega (arith, paid));
   fresh = subst (λ b. AreFresh b is.searching.since (count_by is_learnt is.searching.since)) begins is.searching.fresh;
+  asked = subst (λ axioms. IsQuestionAbout axioms net log n k e first) (sym (ap axioms_of closes ∙ marked_axioms asked 1)) is.asked;
   found = subst (λ axioms. IsVerdict axioms (clauses_of new) (old ++ mark 0 ∷ []) is.searching.since net log n k e budget first verdict) (sym (ap axioms_of closes ∙ marked_axioms asked 1))
       (subst (λ clauses. IsVerdict (axioms_of asked) clauses (old ++ mark 0 ∷ []) is.searching.since net log n k e budget first verdict) (sym (ap clauses_of closes ∙ marked_clauses asked 1))
       (subst (λ b. IsVerdict (axioms_of asked) (clauses_of asked) b is.searching.since net log n k e budget first verdict) begins is.found));

@@ -9,7 +9,7 @@ use Rattle.des_base.specs.Lists.{numbers_below}
 use Rattle.des_net.specs.Network.{Net}
 use Rattle.fault_verdicts.proofs.Asking.{HasPosed, IsFor}
 use Rattle.fault_verdicts.proofs.Telling.{event_of_true}
-use Rattle.fault_verdicts.specs.Asked.{without, with_event, IsPosedOf, asked_for, no_step_literals, some_step_clause, some_step_clauses}
+use Rattle.fault_verdicts.specs.Asked.{Question, without, with_event, IsPosedOf, asked_for, no_step_literals, some_step_clause, some_step_clauses}
 use Rattle.fault_verdicts.specs.Judged.{IsBestRun, IsVerdict, IsPossibleFound, IsAskedBeside}
 use Rattle.fault_verdicts.specs.Judging.{IsAbout, verdict_of}
 use Rattle.fault_verdicts.specs.Verdicts.{IsBest}
@@ -76,6 +76,12 @@ refuted_found axioms clauses earlier since net log n k e budget first false assu
       refuted = record { assumed = assumed; posed = posed; final_entry = final_entry };
     }
 
+-- ---- which question it is
+
+pub asked_beside : (first : List RunStep) (e : ℕ) (question : Question) (b : Bool) → b ≡ true ↔ Contains (word_of first) e → IsFor b question → IsAskedBeside first e question
+asked_beside first e question true told is = subst (IsAskedBeside first e) (sym is) (told.0 refl)
+asked_beside first e question false told is = subst (IsAskedBeside first e) (sym is.1) (λ in'. let no : false ≡ true = told.1 in' in cc)
+
 -- ---- a spent budget
 
 pub open_found : (axioms clauses : List Clause) (earlier since : List BookEntry) (net : Net) (log : Log) (n k e budget : ℕ) (first : List RunStep) (there : Bool) (assumed : List Lit) → there ≡ true ↔ Contains (word_of first) e → AreFresh earlier since budget →
@@ -83,15 +89,11 @@ pub open_found : (axioms clauses : List Clause) (earlier since : List BookEntry)
 open_found axioms clauses earlier since net log n k e budget first there assumed tells fresh has clashes = record {
   fresh = fresh;
   question = has.question;
-  asked = asked there tells has.is_for;
+  asked = asked_beside first e has.question there tells has.is_for;
   assumed = assumed;
   posed = has.posed;
   clashes = clashes;
 }
-  where
-    asked : (b : Bool) → b ≡ true ↔ Contains (word_of first) e → IsFor b has.question → IsAskedBeside first e has.question
-    asked true told is = subst (IsAskedBeside first e) (sym is) (told.0 refl)
-    asked false told is = subst (IsAskedBeside first e) (sym is.1) (λ in'. let no : false ≡ true = told.1 in' in cc)
 
 -- ---- a model
 

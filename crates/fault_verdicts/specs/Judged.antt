@@ -59,6 +59,13 @@ pub record IsOpenFound (axioms clauses : List Clause) (earlier since : List Book
   pub posed : IsPosedOf axioms assumed net log n k e question
   pub clashes : Clashes clauses assumed
 
+-- The axioms pose the question about the event, with some assumptions, beside the best run that is known.
+pub record IsQuestionAbout (axioms : List Clause) (net : Net) (log : Log) (n k e : ℕ) (first : List RunStep) : Type 0 where
+  pub question : Question
+  pub asked : IsAskedBeside first e question
+  pub assumed : List Lit
+  pub posed : IsPosedOf axioms assumed net log n k e question
+
 -- what each verdict means, and what the entries since an earlier book show of it, over the axioms and all clauses of the book
 abbrev pub IsVerdict : List Clause → List Clause → List BookEntry → List BookEntry → Net → Log → ℕ → ℕ → ℕ → ℕ → List RunStep → Verdict → Type 0
 IsVerdict axioms clauses earlier since net log n k e budget first Certain = IsCertainFound axioms since net log n k e
@@ -66,11 +73,12 @@ IsVerdict axioms clauses earlier since net log n k e budget first Excluded = IsE
 IsVerdict axioms clauses earlier since net log n k e budget first (Possible other) = IsPossibleFound net log n k e first other
 IsVerdict axioms clauses earlier since net log n k e budget first Open = IsOpenFound axioms clauses earlier since net log n k e budget first
 
--- The question was opened by a mark 0 and closed by a mark 1, and the entries between show the verdict. At most as many clauses as the budget says were learnt, each of them fresh.
+-- The question was opened by a mark 0 and closed by a mark 1, and the entries between show the verdict. Whatever it is, all axioms of the book pose the question. At most as many clauses as the budget says were learnt, each of them fresh.
 pub record IsJudged (net : Net) (log : Log) (n k e budget : ℕ) (first : List RunStep) (old new : List BookEntry) (verdict : Verdict) : Type 0 where
   pub since : List BookEntry
   pub whole : new ≡ old ++ mark 0 ∷ since ++ mark 1 ∷ []
   pub unmarked : (number : ℕ) → count_by (is_mark number) since ≡ 0
   pub within : count_by is_learnt since ≤ budget
   pub fresh : HaveLearntFresh (old ++ mark 0 ∷ []) since
+  pub asked : IsQuestionAbout (axioms_of new) net log n k e first
   pub found : IsVerdict (axioms_of new) (clauses_of new) (old ++ mark 0 ∷ []) since net log n k e budget first verdict

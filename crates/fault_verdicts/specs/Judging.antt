@@ -4,7 +4,7 @@ use Rattle.card_counter.specs.CounterState.{CounterState, positive}
 use Rattle.des_base.specs.Lists.{numbers_below}
 use Rattle.des_net.specs.Network.{Net}
 use Rattle.fault_verdicts.specs.Asked.{no_step_literals}
-use Rattle.fault_verdicts.specs.Judged.{IsVerdict}
+use Rattle.fault_verdicts.specs.Judged.{IsQuestionAbout, IsVerdict}
 use Rattle.fault_verdicts.specs.Ready.{AreReadyWith}
 use Rattle.fault_verdicts.specs.declared.answer.Verdict.{Verdict}
 use Rattle.fault_verdicts.specs.declared.answer.Verdict.TheVariants.{Certain, Excluded}
@@ -93,7 +93,8 @@ abbrev pub verdict_of : Bool → Verdict
 verdict_of true = Certain
 verdict_of false = Excluded
 
--- The entries that were put show the verdict, by what was left of the budget; each clause that was learnt was fresh.
+-- The entries that were put show the verdict, by what was left of the budget, and all axioms pose the question; each clause that was learnt was fresh.
 pub record IsVerdictShown (net : Net) (log : Log) (n k e : ℕ) (first : List RunStep) (left_old left_new : ℕ) (old new : List BookEntry) (verdict : Verdict) : Type 0 where
   pub searching : IsSearching old new left_old left_new
+  pub asked : IsQuestionAbout (axioms_of new) net log n k e first
   pub found : IsVerdict (axioms_of new) (clauses_of new) old searching.since net log n k e left_old first verdict
