@@ -105,7 +105,7 @@ said_in_all o c texts ends reads three nine =
       memory = λ p. nine (subst (λ (x : Ending). HasStatus x o.status) p ends.shown);
       load = λ j p. three (subst (λ (x : Ending). HasStatus x o.status) p ends.shown);
     } in
-    let closes = closed o.loads o.words 1 (files_of c) [] texts (Closes c o.words o.book) e answer reads.files (called o.loads o.words o.book (command_of o.words) c e reads.command (ends.due.says answer.memory)) in
+    let closes = closed o.loads o.words 1 (files_of c) [] texts (Closes c o.words o.book) e answer reads.files (called o.loads o.words o.book (command_of o.words) c e reads.command (ends.due.says answer.memory).comes) in
     asked (halts c o.words texts) e (Says c o.words o.book texts) reads.small closes
 
 -- so status and text tell a reply that a command with one may give
@@ -201,7 +201,7 @@ pub said_over : (o : Outcome) (c : Single) → Ends o → command_of o.words ≡
 said_over o c ends command answers =
     let e = ends.ending in
     let memory : e ≢ Err Memory = λ p. answers (subst IsStopStatus (sym (subst (λ (x : Ending). HasStatus x o.status) p ends.shown)) (of_stop Memory)) in
-    said_by o c e answers (called o.loads o.words o.book (command_of o.words) (One c) e command (ends.due.says memory)) ends.shown ends.put
+    said_by o c e answers (called o.loads o.words o.book (command_of o.words) (One c) e command (ends.due.says memory).comes) ends.shown ends.put
 
 -- ---- one reply or several over such bytes
 
@@ -224,7 +224,7 @@ pub told_over : (o : Outcome) (c : Command) → Ends o → command_of o.words �
 told_over o c ends command answers =
     let e = ends.ending in
     let memory : e ≢ Err Memory = λ p. answers (subst IsStopStatus (sym (subst (λ (x : Ending). HasStatus x o.status) p ends.shown)) (of_stop Memory)) in
-    told_by o c e answers (called o.loads o.words o.book (command_of o.words) c e command (ends.due.says memory)) ends.shown ends.put
+    told_by o c e answers (called o.loads o.words o.book (command_of o.words) c e command (ends.due.says memory).comes) ends.shown ends.put
 
 -- what is told is held
 pub same_text : (o : Option (List ℕ)) (text held : List ℕ) → o ≡ Some text → IfSome o (λ there. there ≡ held) → text ≡ held

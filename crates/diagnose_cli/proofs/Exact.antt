@@ -84,4 +84,4 @@ stop_row o ends three nine =
     let e = ends.ending in
     let m : e ≢ Err Memory = λ p. nine (subst (λ (x : Ending). HasStatus x o.status) p ends.shown) in
     let k : (j : ℕ) → e ≢ Err (Load j) = λ j p. three (subst (λ (x : Ending). HasStatus x o.status) p ends.shown) in
-    row_here (stop_of_command o.loads.held o.words (command_of o.words)) o e (due_exact o.loads o.words o.book (command_of o.words) e m k (ends.due.says m)) ends.shown ends.put
+    row_here (stop_of_command o.loads.held o.words (command_of o.words)) o e (due_exact o.loads o.words o.book (command_of o.words) e m k (ends.due.says m).comes) ends.shown ends.put

@@ -90,7 +90,7 @@ load_row_of o (Err (Large size)) d p t = absurd (omega arith)
 load_row_of o (Err Memory) d p t = absurd (omega arith)
 
 pub load_row : (o : Outcome) → Ends o → o.status ≡ 3 → LoadRow o
-load_row o e p = load_row_of o e.ending e.due.says (subst (HasStatus e.ending) p e.shown) e.put
+load_row o e p = load_row_of o e.ending (λ memory. (e.due.says memory).comes) (subst (HasStatus e.ending) p e.shown) e.put
 
 -- a command without files has none that fails
 pub no_load_failed : (o : Outcome) (c : Command) → Ends o → command_of o.words ≡ Some c → files_of c ≡ [] → o.status ≢ 3

@@ -1,5 +1,5 @@
 -- The run of a command, which has one reply or several.
-use Rattle.std.proofs.Common.{◌≡◌, ◌≢◌, ◌∙◌, arith, ℕ, IfErr, List, [], ◌∷◌, Option, Some, Result, Ok, Err, refl, sym, ap, subst}
+use Rattle.std.proofs.Common.{◌≡◌, ◌≢◌, ◌∙◌, arith, ℕ, IfErr, IfOk, List, [], ◌∷◌, Option, Some, Result, Ok, Err, refl, sym, ap, subst}
 use Rattle.proof_ledger.specs.Book.{BookEntry}
 use Rattle.diagnose_cli.specs.declared.command.Command.{Command}
 use Rattle.diagnose_cli.specs.declared.command.Command.TheVariants.{One, Session}
@@ -9,11 +9,11 @@ use Rattle.endings.specs.declared.ending.Kind.{Kind}
 use Rattle.endings.specs.declared.ending.Kind.TheVariants.{Done, Rejected, Absent, Undecided, Many, Nothing, Ambiguous}
 use Rattle.endings.specs.declared.stop.Stop.{Stop}
 use Rattle.endings.specs.declared.stop.Stop.TheVariants.{Memory}
-use Rattle.endings.specs.Transcripts.{once}
+use Rattle.endings.specs.Transcripts.{Ending, cut_short, once}
 use Rattle.endings.specs.Endings.{HasStatus, status_of_kind, status_of_stop}
 use Rattle.endings.specs.Files.{Loads}
 use Rattle.diagnose_cli.specs.Commands.{command_of, files_of}
-use Rattle.diagnose_cli.specs.Due.{Due, HasNotBegun}
+use Rattle.diagnose_cli.specs.Due.{Due, HasNotBegun, StopsEmpty}
 use Rattle.endings.specs.Puts.{Puts, Speaks}
 use Rattle.diagnose_cli.specs.Outcomes.{Outcome, outcome}
 use Rattle.diagnose_cli.specs.Rows.{Row, RowAlone, CheckRows, DiagnoseRows}
@@ -39,7 +39,7 @@ no_session words c book called other steps budget is = absurd (other steps budge
 
 -- ---- what the run of a command does that says what is due
 
-module _ (o : Outcome) (rose : Type 0) (speaks : Speaks (Due o.loads o.words o.book) (HasNotBegun o.words o.book) o.before o.now rose o.status) where
+module _ (o : Outcome) (rose : Type 0) (speaks : Speaks (StopsEmpty (Due o.loads o.words o.book) o.book) (HasNotBegun o.words o.book) o.before o.now rose o.status) where
   ran : Ran o rose
   ran = record {
     stops = λ whole. stop_row o (speaks.ends whole.put.written) whole.loaded whole.put.memory;
@@ -125,7 +125,7 @@ module _ (o : Outcome) (rose : Type 0) (speaks : Speaks (Due o.loads o.words o.b
   }
 
 pub done : (l : Loads) (words : List (List ℕ)) (before now : Option (List ℕ)) (book : List BookEntry) (status : ℕ) (rose : Type 0)
-    → Speaks (Due l words book) (HasNotBegun words book) before now rose status → Does (outcome l words before now book status) rose
+    → Speaks (StopsEmpty (Due l words book) book) (HasNotBegun words book) before now rose status → Does (outcome l words before now book status) rose
 done l words before now book status rose speaks = does (outcome l words before now book status) rose speaks
 
 -- ---- what a command leaves that stops
@@ -150,3 +150,13 @@ stop_told (Err why) P status left shown stop = left (λ is. let nine = nine_of w
 
 pub stop_left : (r : Result (Kind × List ℕ) Stop) (P : Type 0) (before now : Option (List ℕ)) (rose : Type 0) (status : ℕ) → Puts (once r) before now rose status → IfErr r (λ stop. stop ≢ Memory → P) → SaysStop status → P
 stop_left r P before now rose status puts left stop = stop_told r P status left (puts.shown stop.put (λ nine. between status stop (omega (arith, nine)) (omega (arith, nine)))) stop
+
+-- a stop of its one reply leaves an empty book, where it leaves the book as it was
+pub once_empty : (may : Ending → Type 0) (book : List BookEntry) (r : Result (Kind × List ℕ) Stop) (P : Type 0) → r ≢ Err Memory → IfErr r (λ stop. stop ≢ Memory → P) → (P → book ≡ []) → may (once r) → StopsEmpty may book (once r)
+once_empty may book (Ok reply) P never left none h = record { comes = h; empty = tt }
+once_empty may book (Err stop) P never left none h = record { comes = h; empty = none (left (λ is. never (ap (λ (s : Stop). Err s) is))) }
+
+-- a reply that is cut short is no stop
+pub cuts_empty : (may : Ending → Type 0) (book : List BookEntry) (r : Result (Kind × List ℕ) Stop) → IfOk r (λ reply. may (Ok (cut_short reply))) → IfOk r (λ reply. StopsEmpty may book (Ok (cut_short reply)))
+cuts_empty may book (Ok reply) h = record { comes = h; empty = tt }
+cuts_empty may book (Err stop) h = tt

@@ -20,7 +20,7 @@ use Rattle.endings.specs.Texts.{script}
 use Rattle.diagnose_cli.specs.FirstTwo.{IsScriptCase, StopsAtFirstTwo}
 use Rattle.diagnose_cli.specs.Commands.{command_of}
 use Rattle.diagnose_cli.specs.SessionReplies.{IsSession}
-use Rattle.diagnose_cli.specs.Due.{MayAnswer, Closes, Due, HasNotBegun, above_limit}
+use Rattle.diagnose_cli.specs.Due.{MayAnswer, Closes, Due, HasNotBegun, StopsEmpty, above_limit}
 use Rattle.endings.specs.Files.{Loads}
 use Rattle.endings.specs.Puts.{Finishes, Speaks}
 use Rattle.diagnose_cli.specs.Run.{SaysStop}
@@ -101,14 +101,24 @@ module _ (steps budget : ℕ) (words : List (List ℕ)) (book : List BookEntry) 
       let of_net = subst (λ (m : Net). Says m rows e) network says in
       closes_by None e (within_limit size (subst (λ j. j ≤ MOST_SIZE) (is ∙ ap (λ m. question_size m no_log steps) network) small)) (subst (λ (rs : List Row). Says (network_of text) rs e) script of_net)
 
+  -- so the book is as it was where it stops
+  said_in_book : (k : ℕ) → k ≡ question_size net no_log steps → k ≤ MOST_SIZE → (e : Ending) → Says net rows e → StopsEmpty (Closes (Session steps budget) words book (text ∷ lines ∷ [])) book e
+  said_in_book k is small (Ok told) says = record { comes = may_say k is small (Ok told) says; empty = tt }
+  said_in_book k is small (Err stop) says = absurd says
+
   pub session_speaks : (k : ℕ) (before now : Option (List ℕ)) (rose : Type 0) (r : Result (Unit {0}) Broken) (status : ℕ) → k ≡ question_size net no_log steps → k ≤ MOST_SIZE → status ≡ status_of_session r
-      → Speaks (MaySay net steps budget rows book) (book ≡ []) before now rose (status_of_session r) → Speaks (Closes (Session steps budget) words book (text ∷ lines ∷ [])) (book ≡ []) before now rose status
+      → Speaks (MaySay net steps budget rows book) (book ≡ []) before now rose (status_of_session r) → Speaks (StopsEmpty (Closes (Session steps budget) words book (text ∷ lines ∷ [])) book) (book ≡ []) before now rose status
   session_speaks k before now rose r status is small shown speaks =
-      let closes = Closes (Session steps budget) words book (text ∷ lines ∷ []) in
+      let closes = StopsEmpty (Closes (Session steps budget) words book (text ∷ lines ∷ [])) book in
       subst (Speaks closes (book ≡ []) before now rose) (sym shown)
-      (speaks_weaker (MaySay net steps budget rows book) closes (may_say k is small) (book ≡ []) (book ≡ []) (λ none. none) before now rose (status_of_session r) speaks)
+      (speaks_weaker (MaySay net steps budget rows book) closes (said_in_book k is small) (book ≡ []) (book ≡ []) (λ none. none) before now rose (status_of_session r) speaks)
 
 -- ---- for the words that call it
+
+-- where the book is empty, a stop leaves it so
+pub stops_empty : (may : Ending → Type 0) (book : List BookEntry) (e : Ending) → book ≡ [] → may e → StopsEmpty may book e
+stops_empty may book (Ok told) none h = record { comes = h; empty = tt }
+stops_empty may book (Err stop) none h = record { comes = h; empty = none }
 
 pub due_for : (l : Loads) (words : List (List ℕ)) (c : Command) (book : List BookEntry) (e : Ending) → command_of words ≡ Some c → MayAnswer l words c book e → Due l words book e
 due_for l words c book e called h = subst (λ (o : Option Command). MatchOption o (e ≡ Err Usage) (λ d. MayAnswer l words d book e)) (sym called) h
@@ -118,10 +128,10 @@ not_begun words book none steps budget is = none
 
 module _ (l : Loads) (words : List (List ℕ)) (steps budget : ℕ) (book : List BookEntry) (called : command_of words ≡ Some (Session steps budget)) where
   pub plan_speaks : (net : Net) (rows : List Row) (before now : Option (List ℕ)) (rose : Type 0) (status : ℕ) (plan : IsScriptCase l.held words net rows)
-      → Speaks (Closes (Session steps budget) words book (plan.text ∷ plan.second ∷ [])) (book ≡ []) before now rose status → Speaks (Due l words book) (HasNotBegun words book) before now rose status
+      → Speaks (StopsEmpty (Closes (Session steps budget) words book (plan.text ∷ plan.second ∷ [])) book) (book ≡ []) before now rose status → Speaks (StopsEmpty (Due l words book) book) (HasNotBegun words book) before now rose status
   plan_speaks net rows before now rose status plan speaks =
-      speaks_weaker (Closes (Session steps budget) words book (plan.text ∷ plan.second ∷ [])) (Due l words book)
-      (λ e h. due_for l words (Session steps budget) book e called (with_two l words script [] (Closes (Session steps budget) words book) net (λ lines. rows ≡ script_of lines) e plan h)) (book ≡ []) (HasNotBegun words book) (not_begun words book)
+      speaks_weaker (StopsEmpty (Closes (Session steps budget) words book (plan.text ∷ plan.second ∷ [])) book) (StopsEmpty (Due l words book) book)
+      (λ e h. record { comes = due_for l words (Session steps budget) book e called (with_two l words script [] (Closes (Session steps budget) words book) net (λ lines. rows ≡ script_of lines) e plan h.comes); empty = h.empty }) (book ≡ []) (HasNotBegun words book) (not_begun words book)
       before now rose status speaks
 
   pub plan_stops : (stop : Stop) → (stop ≢ NoMemory → StopsAtFirstTwo script l words stop) → UnlessMemory {T = Kind × List ℕ} (Err stop) (Due l words book (once (Err stop)))

@@ -74,4 +74,4 @@ of_ending o (Err (Large size)) d p = absurd (omega arith)
 of_ending o (Err Memory) d p = absurd (omega arith)
 
 pub usage_row : (o : Outcome) → Ends o → o.status ≡ 2 → command_of o.words ≡ None
-usage_row o ends p = of_ending o ends.ending ends.due.says (subst (HasStatus ends.ending) p ends.shown)
+usage_row o ends p = of_ending o ends.ending (λ memory. (ends.due.says memory).comes) (subst (HasStatus ends.ending) p ends.shown)

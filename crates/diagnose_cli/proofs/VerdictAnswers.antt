@@ -20,7 +20,7 @@ use Rattle.endings.specs.declared.ending.Kind.{Kind}
 use Rattle.endings.specs.declared.stop.Stop.{Stop}
 use Rattle.endings.specs.declared.stop.Stop.TheVariants.{Large, Memory as NoMemory}
 use Rattle.diagnose_cli.specs.Commands.{command_of}
-use Rattle.diagnose_cli.specs.Due.{Closes, Due, HasNotBegun, above_limit}
+use Rattle.diagnose_cli.specs.Due.{Closes, Due, HasNotBegun, StopsEmpty, above_limit}
 use Rattle.endings.specs.Files.{Loads}
 use Rattle.endings.specs.Puts.{Speaks}
 use Rattle.diagnose_cli.specs.Run.{SaysStop}
@@ -93,19 +93,24 @@ module _ (steps budget : ℕ) (words : List (List ℕ)) (book : List BookEntry) 
       let of_net = subst (λ (m : Net). MayTell m alarms steps budget book e) network tells in
       closes_by None e (within_limit size (subst (λ j. j ≤ MOST_SIZE) same_size small)) (subst (λ (a : Log). MayTell (network_of text) a steps budget book e) listed of_net)
 
-  pub judged_speaks : (before now : Option (List ℕ)) (rose : Type 0) (r : Result Told Broken) (status : ℕ) → question_size net alarms steps ≤ MOST_SIZE → status ≡ status_of_told r → TellsWhole net alarms steps budget book before now rose r → Speaks closes ⊤ before now rose status
+  -- so the book is as it was where it stops
+  told_in_book : question_size net alarms steps ≤ MOST_SIZE → (e : Ending) → MayTell net alarms steps budget book e → StopsEmpty closes book e
+  told_in_book small (Ok told) tells = record { comes = may_tell small (Ok told) tells; empty = tt }
+  told_in_book small (Err stop) tells = absurd tells
+
+  pub judged_speaks : (before now : Option (List ℕ)) (rose : Type 0) (r : Result Told Broken) (status : ℕ) → question_size net alarms steps ≤ MOST_SIZE → status ≡ status_of_told r → TellsWhole net alarms steps budget book before now rose r → Speaks (StopsEmpty closes book) ⊤ before now rose status
   judged_speaks before now rose r status small shown tells =
-      subst (Speaks closes ⊤ before now rose) (sym shown)
-      (speaks_weaker (MayTell net alarms steps budget book) closes (may_tell small) ⊤ ⊤ (λ any. any) before now rose (status_of_told r) (told_speaks net alarms steps budget book before now rose r tells))
+      subst (Speaks (StopsEmpty closes book) ⊤ before now rose) (sym shown)
+      (speaks_weaker (MayTell net alarms steps budget book) (StopsEmpty closes book) (told_in_book small) ⊤ ⊤ (λ any. any) before now rose (status_of_told r) (told_speaks net alarms steps budget book before now rose r tells))
 
 -- ---- for the words that call it
 
 module _ (l : Loads) (words : List (List ℕ)) (steps budget : ℕ) (book : List BookEntry) (called : command_of words ≡ Some (Verdicts steps budget)) where
   pub case_speaks : (net : Net) (alarms : Log) (before now : Option (List ℕ)) (rose : Type 0) (status : ℕ) (case : IsCase l.held words net alarms)
-      → Speaks (Closes (Verdicts steps budget) words book (case.text ∷ case.second ∷ [])) ⊤ before now rose status → Speaks (Due l words book) (HasNotBegun words book) before now rose status
+      → Speaks (StopsEmpty (Closes (Verdicts steps budget) words book (case.text ∷ case.second ∷ [])) book) ⊤ before now rose status → Speaks (StopsEmpty (Due l words book) book) (HasNotBegun words book) before now rose status
   case_speaks net alarms before now rose status case speaks =
-      speaks_weaker (Closes (Verdicts steps budget) words book (case.text ∷ case.second ∷ [])) (Due l words book)
-      (λ e h. due_for l words (Verdicts steps budget) book e called (with_two l words log [] (Closes (Verdicts steps budget) words book) net (λ rows. alarms ≡ log_of rows) e case h)) ⊤ (HasNotBegun words book) (λ any. no_session words (Verdicts steps budget) book called (λ n b is. cc))
+      speaks_weaker (StopsEmpty (Closes (Verdicts steps budget) words book (case.text ∷ case.second ∷ [])) book) (StopsEmpty (Due l words book) book)
+      (λ e h. record { comes = due_for l words (Verdicts steps budget) book e called (with_two l words log [] (Closes (Verdicts steps budget) words book) net (λ rows. alarms ≡ log_of rows) e case h.comes); empty = h.empty }) ⊤ (HasNotBegun words book) (λ any. no_session words (Verdicts steps budget) book called (λ n b is. cc))
       before now rose status speaks
 
   pub case_stops : (stop : Stop) → (stop ≢ NoMemory → StopsAtFirstTwo log l words stop) → UnlessMemory {T = Kind × List ℕ} (Err stop) (Due l words book (once (Err stop)))

@@ -1,5 +1,5 @@
 -- What may come for the words of a command line: a stop by the first cause in order, what the command says, or want of memory.
-use Rattle.std.specs.Prelude.{◌≡◌, ℕ, ◌+◌, List, [], ◌∷◌, ◌++◌, length, drop, Bool, false, cond, nat_lt, is_none, option_map, Option, Some, None, if◌then◌else◌, Err, IsOkAnd, MatchOption}
+use Rattle.std.specs.Prelude.{◌≡◌, ℕ, ◌+◌, List, [], ◌∷◌, ◌++◌, length, drop, Bool, false, cond, nat_lt, is_none, option_map, Option, Some, None, if◌then◌else◌, Err, IfErr, IsOkAnd, MatchOption}
 use Rattle.des_base.specs.CommandWords.{word_at}
 use Rattle.cost_least.specs.Costs.{cost_size}
 use Rattle.event_costs.specs.CostText.{cost_of, fault_event_of}
@@ -106,10 +106,15 @@ AnswersSpelled l words c book e = cond (is_called words c) (MayAnswer l words c 
 abbrev pub Due : Loads → List (List ℕ) → List BookEntry → Ending → Type 0
 Due l words book e = MatchOption (command_of words) (e ≡ Err Usage) (λ c. MayAnswer l words c book e)
 
+-- It may come with this book left. Where it says why there is no reply, the book is empty, as it is before a question is asked.
+pub record StopsEmpty (may : Ending → Type 0) (book : List BookEntry) (e : Ending) : Type 0 where
+  pub comes : may e
+  pub empty : IfErr e (λ stop. book ≡ [])
+
 -- where the words call a session the book is empty, as it is before a session begins
 abbrev pub HasNotBegun : List (List ℕ) → List BookEntry → Type 0
 HasNotBegun words book = (steps budget : ℕ) → command_of words ≡ Some (Session steps budget) → book ≡ []
 
--- What may come for these words with this book left: what is due, or want of memory before any text is put, of which a session leaves an empty book. That a session ran out of memory at one of its rows is due too, with the book that it came to.
+-- What may come for these words with this book left: what is due, or want of memory before any text is put, of which a session leaves an empty book. A stop leaves an empty book. That a session ran out of memory at one of its rows is due too, with the book that it came to.
 abbrev pub MayCome : Loads → List (List ℕ) → List BookEntry → Ending → Type 0
-MayCome l words book = OrMemory (Due l words book) (HasNotBegun words book)
+MayCome l words book = OrMemory (StopsEmpty (Due l words book) book) (HasNotBegun words book)

@@ -7,7 +7,7 @@ use Rattle.diagnose_cli.specs.declared.command.Command.{Command}
 use Rattle.diagnose_cli.specs.declared.command.Command.TheVariants.{One, Session, Verdicts}
 use Rattle.diagnose_cli.specs.declared.command.Single.TheVariants.{Ask, Bench, Twin, Cheapest}
 use Rattle.diagnose_cli.specs.Commands.{command_of, file_count, files_of}
-use Rattle.diagnose_cli.specs.Due.{Due, MayCome}
+use Rattle.diagnose_cli.specs.Due.{Due, MayCome, StopsEmpty}
 use Rattle.diagnose_cli.specs.Outcomes.{Outcome, IsUnbroken}
 use Rattle.diagnose_cli.specs.Deciding.{DecidedRow}
 use Rattle.diagnose_cli.specs.Exact.{StopRow}
@@ -23,9 +23,9 @@ use Rattle.diagnose_cli.specs.CheapRows.{CheapRows}
 abbrev pub Ends : Outcome → Type 0
 Ends o = Finishes (MayCome o.loads o.words o.book) o.before o.now o.status
 
--- by one that is due and whose last text can't be put whole: the others were put, and of this a front
+-- By one that is due and whose last text can't be put whole: the others were put, and of this a front. Where that text says why there is no reply, the book is empty.
 abbrev pub CutOff : Outcome → Type 0
-CutOff o = IsCutOff (Due o.loads o.words o.book) o.before o.now
+CutOff o = IsCutOff (StopsEmpty (Due o.loads o.words o.book) o.book) o.before o.now
 
 -- the count of the name of file i rose
 abbrev pub RoseFor : Outcome → ℕ → Type 0

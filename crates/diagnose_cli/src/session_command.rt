@@ -4,7 +4,7 @@ ghost use Rattle.alarm_session.specs.Session.{BeginsAs};
 ghost use Rattle.des_base.specs.Outside.{Rose};
 ghost use Rattle.des_base.specs.declared.TheConstants.{MOST_STEPS};
 ghost use Rattle.diagnose_cli.specs.Commands.{command_of};
-ghost use Rattle.diagnose_cli.specs.Due.{Closes, Due, HasNotBegun};
+ghost use Rattle.diagnose_cli.specs.Due.{Closes, Due, HasNotBegun, StopsEmpty};
 ghost use Rattle.endings.specs.Files.{loads};
 ghost use Rattle.endings.specs.Puts.{Speaks};
 ghost use Rattle.diagnose_cli.specs.Run.{SaysStop};
@@ -45,7 +45,7 @@ pub fn session_command<F: Shelf, S: Sink>(
     requires words { 2 < length words.now }
     requires steps { limits.steps ≤ MOST_STEPS }
     requires empty { book.old.entries ≡ [] }
-    ensures speaks { Speaks (Due (loads F.held F.faults shelf.old shelf.new) words.now book.new.entries) (HasNotBegun words.now book.new.entries) (S.taken out.old) (S.taken out.new) (Rose (S.faults out.old) (S.faults out.new)) result }
+    ensures speaks { Speaks (StopsEmpty (Due (loads F.held F.faults shelf.old shelf.new) words.now book.new.entries) book.new.entries) (HasNotBegun words.now book.new.entries) (S.taken out.old) (S.taken out.new) (Rose (S.faults out.old) (S.faults out.new)) result }
     ensures stopped { SaysStop result → book.new ≡ book.old }
     ensures failures { RisesExactlyIf (result ≡ 4) (S.failures out.old) (S.failures out.new) }
 {
@@ -63,7 +63,7 @@ pub fn session_command<F: Shelf, S: Sink>(
 fn carry_out<S: Sink>(alloc: Global, plan: &Plan, out: &mut S, book: &mut Ledger) -> u8
     requires steps { plan.now.limits.steps ≤ MOST_STEPS }
     requires empty { book.old.entries ≡ [] }
-    ensures speaks { (words : List (List ℕ)) (text lines : List ℕ) → plan.now.net ≡ network_of text → plan.now.script ≡ script_of lines → Speaks (Closes (Command.Session plan.now.limits.steps plan.now.limits.budget) words book.new.entries (text ∷ lines ∷ [])) (book.new.entries ≡ []) (S.taken out.old) (S.taken out.new) (Rose (S.faults out.old) (S.faults out.new)) result }
+    ensures speaks { (words : List (List ℕ)) (text lines : List ℕ) → plan.now.net ≡ network_of text → plan.now.script ≡ script_of lines → Speaks (StopsEmpty (Closes (Command.Session plan.now.limits.steps plan.now.limits.budget) words book.new.entries (text ∷ lines ∷ [])) book.new.entries) (book.new.entries ≡ []) (S.taken out.old) (S.taken out.new) (Rose (S.faults out.old) (S.faults out.new)) result }
     ensures stopped { SaysStop result → book.new ≡ book.old }
     ensures failures { RisesExactlyIf (result ≡ 4) (S.failures out.old) (S.failures out.new) }
 {

@@ -3,7 +3,7 @@ ghost use Rattle.std.specs.Prelude.{◌≡◌, ◌<◌, ◌≤◌, ⊤, ℕ, Lis
 ghost use Rattle.des_base.specs.Outside.{Rose};
 ghost use Rattle.des_base.specs.declared.TheConstants.{MOST_STEPS};
 ghost use Rattle.diagnose_cli.specs.Commands.{command_of};
-ghost use Rattle.diagnose_cli.specs.Due.{Closes, Due, HasNotBegun};
+ghost use Rattle.diagnose_cli.specs.Due.{Closes, Due, HasNotBegun, StopsEmpty};
 ghost use Rattle.endings.specs.Files.{loads};
 ghost use Rattle.endings.specs.Puts.{Speaks};
 ghost use Rattle.diagnose_cli.specs.Rows.{AreTold};
@@ -40,7 +40,7 @@ pub fn verdicts_command<F: Shelf, S: Sink>(
     requires words { 2 < length words.now }
     requires steps { limits.steps ≤ MOST_STEPS }
     requires empty { book.old.entries ≡ [] }
-    ensures speaks { Speaks (Due (loads F.held F.faults shelf.old shelf.new) words.now book.new.entries) (HasNotBegun words.now book.new.entries) (S.taken out.old) (S.taken out.new) (Rose (S.faults out.old) (S.faults out.new)) result }
+    ensures speaks { Speaks (StopsEmpty (Due (loads F.held F.faults shelf.old shelf.new) words.now book.new.entries) book.new.entries) (HasNotBegun words.now book.new.entries) (S.taken out.old) (S.taken out.new) (Rose (S.faults out.old) (S.faults out.new)) result }
     ensures stopped { SaysStop result → book.new ≡ book.old }
     ensures left { (text alarms : List ℕ) → AreTold (F.held shelf.old) words.now 1 (text ∷ alarms ∷ []) → LeavesVerdicts (network_of text) (log_of alarms) limits.steps limits.budget book.new.entries }
     ensures failures { RisesExactlyIf (result ≡ 4) (S.failures out.old) (S.failures out.new) }
@@ -65,7 +65,7 @@ fn judge_case<S: Sink>(
 ) -> u8
     requires steps { limits.steps ≤ MOST_STEPS }
     requires empty { book.old.entries ≡ [] }
-    ensures speaks { (words : List (List ℕ)) (text alarms : List ℕ) → case.now.net ≡ network_of text → case.now.log ≡ log_of alarms → Speaks (Closes (Command.Verdicts limits.steps limits.budget) words book.new.entries (text ∷ alarms ∷ [])) ⊤ (S.taken out.old) (S.taken out.new) (Rose (S.faults out.old) (S.faults out.new)) result }
+    ensures speaks { (words : List (List ℕ)) (text alarms : List ℕ) → case.now.net ≡ network_of text → case.now.log ≡ log_of alarms → Speaks (StopsEmpty (Closes (Command.Verdicts limits.steps limits.budget) words book.new.entries (text ∷ alarms ∷ [])) book.new.entries) ⊤ (S.taken out.old) (S.taken out.new) (Rose (S.faults out.old) (S.faults out.new)) result }
     ensures stopped { SaysStop result → book.new ≡ book.old }
     ensures left { LeavesVerdicts case.now.net case.now.log limits.steps limits.budget book.new.entries }
     ensures failures { RisesExactlyIf (result ≡ 4) (S.failures out.old) (S.failures out.new) }

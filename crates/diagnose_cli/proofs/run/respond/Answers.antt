@@ -1,21 +1,21 @@
 -- By a session, or by the one reply that was due.
 use Rattle.std.proofs.Common.{◌≡◌, [], false, IfSome, Some, Err, refl, sym, ◌∙◌, ap}
 use Rattle.diagnose_cli.specs.Commands.{command_of, files_of, read_command}
-use Rattle.diagnose_cli.specs.Due.{Due, HasNotBegun}
+use Rattle.diagnose_cli.specs.Due.{Due, HasNotBegun, StopsEmpty}
 use Rattle.endings.specs.Files.{loads}
 use Rattle.diagnose_cli.specs.declared.command.Command.TheVariants.{One, Session, Verdicts}
 use Rattle.endings.specs.declared.stop.Stop.TheVariants.{Usage}
 use Rattle.diagnose_cli.proofs.Called.{spelled_fits}
 use Rattle.diagnose_cli.proofs.GenerateAnswers.{asks_nothing, has_files}
 use Rattle.diagnose_cli.proofs.Left.{left_verdicts, none_left}
-use Rattle.diagnose_cli.proofs.Once.{done, stop_left}
+use Rattle.diagnose_cli.proofs.Once.{cuts_empty, done, once_empty, stop_left}
 use Rattle.diagnose_cli.proofs.Spelled.{called_so, either_way, none_called, one_has_not_begun, spelled_due, spelled_left}
 use Rattle.diagnose_cli.specs.Run.{is_question}
 use Rattle.endings.specs.Transcripts.{once}
 use Rattle.endings.proofs.Once.{speaks_once}
 use Rattle.diagnose_cli.proofs.Ones.{cuts_due}
 use Rattle.diagnose_cli.proofs.Orders.{usage_due}
-use Rattle.diagnose_cli.proofs.SessionAnswers.{not_begun}
+use Rattle.diagnose_cli.proofs.SessionAnswers.{not_begun, stops_empty}
 use Rattle.diagnose_cli.proofs.run.respond.Goals as goal
 
 pub returns-in-None-clause-does : goal.returns-in-None-clause-does
@@ -25,7 +25,7 @@ returns-in-None-clause-does g c =
     let book = c.args.book.now.entries in
     let none = none_called words (sym c.read_command.ensures ∙ c.in-None.is) in
     done l words (g.S.Sink.taken c.args.out.now) (g.S.Sink.taken c.put_once.new.out) book c.put_once.result _
-    (speaks_once (Due l words book) (HasNotBegun words book) (not_begun words book c.requires) (Err Usage) _ _ _ _ (λ never. usage_due l words book none) c.put_once.ensures.puts tt)
+    (speaks_once (StopsEmpty (Due l words book) book) (HasNotBegun words book) (not_begun words book c.requires) (Err Usage) _ _ _ _ (λ never. stops_empty (Due l words book) book (Err Usage) c.requires (usage_due l words book none)) c.put_once.ensures.puts tt)
 
 pub returns-in-Some-Session-clause-does : goal.returns-in-Some-Session-clause-does
 returns-in-Some-Session-clause-does g c =
@@ -65,8 +65,8 @@ returns-in-Some-One-clause-does g c =
     let book = c.answer-ending.new.book.entries in
     let spelled : read_command words ≡ Some (One command) = sym c.read_command.ensures ∙ c.in-Some-One.is ∙ ap Some c.in-Some-One.field-0-is in
     done l words (g.S.Sink.taken c.args.out.now) (g.S.Sink.taken c.put_once-in-Some-One.new.out) book c.put_once-in-Some-One.result _
-    (speaks_once (Due l words book) (HasNotBegun words book) (one_has_not_begun words command book spelled) c.answer-ending.result _ _ _ _ (λ never. spelled_due words (One command) spelled l book (once c.answer-ending.result) (c.answer-ending.ensures.due never)) c.put_once-in-Some-One.ensures.puts
-    (cuts_due l words command book spelled c.answer-ending.result c.answer-ending.ensures.due))
+    (speaks_once (StopsEmpty (Due l words book) book) (HasNotBegun words book) (one_has_not_begun words command book spelled) c.answer-ending.result _ _ _ _ (λ never. once_empty (Due l words book) book c.answer-ending.result _ never c.answer-ending.ensures.stopped (λ same. ap (λ b. b.entries) same ∙ c.requires) (spelled_due words (One command) spelled l book (once c.answer-ending.result) (c.answer-ending.ensures.due never))) c.put_once-in-Some-One.ensures.puts
+    (cuts_empty (Due l words book) book c.answer-ending.result (cuts_due l words command book spelled c.answer-ending.result c.answer-ending.ensures.due)))
 
 pub returns-in-Some-One-clause-left_alone : goal.returns-in-Some-One-clause-left_alone
 returns-in-Some-One-clause-left_alone g c =

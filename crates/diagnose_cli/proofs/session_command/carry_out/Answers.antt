@@ -4,9 +4,9 @@ use Rattle.log_order.specs.Log.{Log}
 use Rattle.replay.specs.QuestionSize.{question_size}
 use Rattle.diagnose_cli.specs.declared.command.Command.TheVariants.{Session}
 use Rattle.endings.specs.declared.stop.Stop.TheVariants.{Large}
-use Rattle.diagnose_cli.specs.Due.{Closes}
+use Rattle.diagnose_cli.specs.Due.{Closes, StopsEmpty}
 use Rattle.endings.proofs.Once.{speaks_once}
-use Rattle.diagnose_cli.proofs.SessionAnswers.{empty_too_large, no_stop, session_fails, session_speaks}
+use Rattle.diagnose_cli.proofs.SessionAnswers.{empty_too_large, no_stop, session_fails, session_speaks, stops_empty}
 use Rattle.diagnose_cli.proofs.session_command.carry_out.Goals as goal
 
 pub returns-then-size-gt-MOST_SIZE-clause-speaks : goal.returns-then-size-gt-MOST_SIZE-clause-speaks
@@ -14,8 +14,8 @@ returns-then-size-gt-MOST_SIZE-clause-speaks g c words text lines of_net of_scri
     let steps = c.args.plan.now.limits.steps in
     let budget = c.args.plan.now.limits.budget in
     let book = c.args.book.now.entries in
-    speaks_once (Closes (Session steps budget) words book (text ∷ lines ∷ [])) (book ≡ []) c.requires.empty (Err (Large c.question_size-size.result)) _ _ _ _
-    (λ never. empty_too_large steps budget words book c.args.plan.now.net c.args.plan.now.script text lines of_net of_script c.question_size-size.result (c.question_size-size.ensures.size ∙ ap (λ (l : Log). question_size c.args.plan.now.net l steps) c.new.ensures) (omega (arith, c.if-size-gt-MOST_SIZE.true))) c.put_once.ensures.puts tt
+    speaks_once (StopsEmpty (Closes (Session steps budget) words book (text ∷ lines ∷ [])) book) (book ≡ []) c.requires.empty (Err (Large c.question_size-size.result)) _ _ _ _
+    (λ never. stops_empty (Closes (Session steps budget) words book (text ∷ lines ∷ [])) book (Err (Large c.question_size-size.result)) c.requires.empty (empty_too_large steps budget words book c.args.plan.now.net c.args.plan.now.script text lines of_net of_script c.question_size-size.result (c.question_size-size.ensures.size ∙ ap (λ (l : Log). question_size c.args.plan.now.net l steps) c.new.ensures) (omega (arith, c.if-size-gt-MOST_SIZE.true)))) c.put_once.ensures.puts tt
 
 pub returns-clause-speaks : goal.returns-clause-speaks
 returns-clause-speaks g c words text lines of_net of_script =

@@ -1,12 +1,12 @@
 -- By its two files, and then as its rows go.
 use Rattle.std.proofs.Common.{◌≡◌, Some, Err, subst, sym}
 use Rattle.diagnose_cli.specs.Commands.{command_of}
-use Rattle.diagnose_cli.specs.Due.{Due, HasNotBegun}
+use Rattle.diagnose_cli.specs.Due.{Due, HasNotBegun, StopsEmpty}
 use Rattle.endings.specs.Files.{loads}
 use Rattle.diagnose_cli.specs.declared.command.Command.TheVariants.{Session}
 use Rattle.diagnose_cli.specs.declared.command.Limits.{Limits}
 use Rattle.endings.proofs.Once.{speaks_once}
-use Rattle.diagnose_cli.proofs.SessionAnswers.{not_begun, plan_speaks, plan_stops}
+use Rattle.diagnose_cli.proofs.SessionAnswers.{not_begun, plan_speaks, plan_stops, stops_empty}
 use Rattle.diagnose_cli.proofs.session_command.session_command.Goals as goal
 
 pub returns-in-Ok-clause-speaks : goal.returns-in-Ok-clause-speaks
@@ -22,5 +22,5 @@ pub returns-in-Err-clause-speaks : goal.returns-in-Err-clause-speaks
 returns-in-Err-clause-speaks g c =
     let l = loads g.F.Shelf.held g.F.Shelf.faults c.args.shelf.now c.fetch_plan.new.shelf in
     let book = c.args.book.now.entries in
-    speaks_once (Due l c.args.words.now book) (HasNotBegun c.args.words.now book) (not_begun c.args.words.now book c.requires.empty) (Err c.in-Err.stop) _ _ _ _
-    (plan_stops l c.args.words.now c.args.limits.steps c.args.limits.budget book c.requires.called c.in-Err.stop c.in-Err.ensures.stop) c.put_once.ensures.puts tt
+    speaks_once (StopsEmpty (Due l c.args.words.now book) book) (HasNotBegun c.args.words.now book) (not_begun c.args.words.now book c.requires.empty) (Err c.in-Err.stop) _ _ _ _
+    (λ never. stops_empty (Due l c.args.words.now book) book (Err c.in-Err.stop) c.requires.empty (plan_stops l c.args.words.now c.args.limits.steps c.args.limits.budget book c.requires.called c.in-Err.stop c.in-Err.ensures.stop never)) c.put_once.ensures.puts tt

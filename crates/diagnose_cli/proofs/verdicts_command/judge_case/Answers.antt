@@ -4,8 +4,9 @@ use Rattle.std.specs.Prelude.{⊤}
 use Rattle.least_faults.specs.declared.TheConstants.{MOST_SIZE}
 use Rattle.diagnose_cli.specs.declared.command.Command.TheVariants.{Verdicts}
 use Rattle.endings.specs.declared.stop.Stop.TheVariants.{Large}
-use Rattle.diagnose_cli.specs.Due.{Closes}
+use Rattle.diagnose_cli.specs.Due.{Closes, StopsEmpty}
 use Rattle.endings.proofs.Once.{speaks_once}
+use Rattle.diagnose_cli.proofs.SessionAnswers.{stops_empty}
 use Rattle.diagnose_cli.proofs.VerdictAnswers.{judged_speaks, judged_too_large, none_stops, verdicts_fail}
 use Rattle.diagnose_cli.proofs.verdicts_command.judge_case.Goals as goal
 
@@ -14,8 +15,8 @@ returns-then-size-gt-MOST_SIZE-clause-speaks g c words text alarms of_net of_log
     let steps = c.args.limits.steps in
     let budget = c.args.limits.budget in
     let book = c.args.book.now.entries in
-    speaks_once (Closes (Verdicts steps budget) words book (text ∷ alarms ∷ [])) ⊤ tt (Err (Large c.question_size-size.result)) _ _ _ _
-    (λ never. judged_too_large steps budget words book c.args.case.now.net c.args.case.now.log text alarms of_net of_log c.question_size-size.result c.question_size-size.ensures.size (omega (arith, c.if-size-gt-MOST_SIZE.true))) c.put_once.ensures.puts tt
+    speaks_once (StopsEmpty (Closes (Verdicts steps budget) words book (text ∷ alarms ∷ [])) book) ⊤ tt (Err (Large c.question_size-size.result)) _ _ _ _
+    (λ never. stops_empty (Closes (Verdicts steps budget) words book (text ∷ alarms ∷ [])) book (Err (Large c.question_size-size.result)) c.requires.empty (judged_too_large steps budget words book c.args.case.now.net c.args.case.now.log text alarms of_net of_log c.question_size-size.result c.question_size-size.ensures.size (omega (arith, c.if-size-gt-MOST_SIZE.true)))) c.put_once.ensures.puts tt
 
 pub tell_case-told-requires-clause-limits : goal.tell_case-told-requires-clause-limits
 tell_case-told-requires-clause-limits g c = record {

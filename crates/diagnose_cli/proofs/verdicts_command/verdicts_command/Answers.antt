@@ -3,12 +3,13 @@ use Rattle.std.proofs.Common.{Err, inl}
 use Rattle.des_net.specs.Network.{Net}
 use Rattle.log_order.specs.Log.{Log}
 use Rattle.verdict_telling.specs.Left.{LeavesVerdicts}
-use Rattle.diagnose_cli.specs.Due.{Due, HasNotBegun}
+use Rattle.diagnose_cli.specs.Due.{Due, HasNotBegun, StopsEmpty}
 use Rattle.endings.specs.Files.{loads}
 use Rattle.diagnose_cli.specs.declared.command.Command.TheVariants.{Verdicts}
 use Rattle.diagnose_cli.proofs.Left.{case_left}
 use Rattle.diagnose_cli.proofs.Once.{no_session}
 use Rattle.endings.proofs.Once.{speaks_once}
+use Rattle.diagnose_cli.proofs.SessionAnswers.{stops_empty}
 use Rattle.diagnose_cli.proofs.VerdictAnswers.{case_speaks, case_stops}
 use Rattle.diagnose_cli.proofs.verdicts_command.verdicts_command.Goals as goal
 
@@ -26,7 +27,7 @@ returns-in-Err-clause-speaks g c =
     let book = c.args.book.now.entries in
     let steps = c.args.limits.steps in
     let budget = c.args.limits.budget in
-    speaks_once (Due l words book) (HasNotBegun words book) (no_session words (Verdicts steps budget) book c.requires.called (λ n b is. cc)) (Err c.in-Err.stop) _ _ _ _ (case_stops l words steps budget book c.requires.called c.in-Err.stop c.in-Err.ensures.stop) c.put_once.ensures.puts tt
+    speaks_once (StopsEmpty (Due l words book) book) (HasNotBegun words book) (no_session words (Verdicts steps budget) book c.requires.called (λ n b is. cc)) (Err c.in-Err.stop) _ _ _ _ (λ never. stops_empty (Due l words book) book (Err c.in-Err.stop) c.requires.empty (case_stops l words steps budget book c.requires.called c.in-Err.stop c.in-Err.ensures.stop never)) c.put_once.ensures.puts tt
 
 pub returns-in-Ok-clause-left : goal.returns-in-Ok-clause-left
 returns-in-Ok-clause-left g c text alarms told =
