@@ -2,6 +2,7 @@ mod Truths
 mod Telling
 mod Drawing
 mod Apart
+pub mod Riders
 pub mod Ready
 mod Asking
 mod Events

@@ -11,6 +11,7 @@ use Rattle.des_base.specs.Lists.{numbers_below}
 use Rattle.des_base.specs.declared.TheConstants.{MOST_COLUMNS}
 use Rattle.des_net.specs.Network.{Net, is_fault}
 use Rattle.des_net.specs.QuestionSize.{fault_event_count}
+use Rattle.fault_verdicts.proofs.Riders.{built_at_first, built_by_solver, built_with_columns, built_with_literal}
 use Rattle.fault_verdicts.specs.Asked.{some_step_clause, some_step_clauses}
 use Rattle.fault_verdicts.specs.Judging.{event_signed, signed_literal}
 use Rattle.fault_verdicts.specs.Ready.{AreReadyWith}
@@ -20,7 +21,7 @@ use Rattle.least_faults.proofs.Beside.{beside, clauses_still}
 use Rattle.least_faults.proofs.ColumnsBuilt.{vars_grow}
 use Rattle.least_faults.specs.Columns.{columns_built}
 use Rattle.least_faults.specs.Growing.{AddsAxioms, KeepsQuestion}
-use Rattle.least_faults.specs.Parts.{AreReady, AreReadyBeside, BelongTo, HaveRoom, built_of, meanings_of_parts}
+use Rattle.least_faults.specs.Parts.{AreReady, AreReadyBeside, BelongTo, HaveRoom, IsBuilt, built_of, meanings_of_parts}
 use Rattle.least_faults.specs.declared.TheConstants.{MOST_SIZE}
 use Rattle.least_faults.specs.declared.parts.Parts.{Parts}
 use Rattle.log_clauses.proofs.Codes.{has_name, named_entry}
@@ -172,15 +173,16 @@ none_made clauses clause = (λ in'. inl in', λ where'. by where')
 -- ---- at first
 
 -- what is ready for a search is ready for verdicts, with none made, where the question keeps its limit
-pub ready_at_first : {R : Type 0} (may : R → ℕ → Type 0) (gives : R → ℕ → ℕ → Type 0) (parts : Parts R) (book : List BookEntry) (net : Net) (log : Log) → AreReady may gives parts book → BelongTo net log parts → question_size net log parts.step.steps ≤ MOST_SIZE →
+pub ready_at_first : {R : Type 0} (may : R → ℕ → Type 0) (gives : R → ℕ → ℕ → Type 0) (parts : Parts R) (book : List BookEntry) (net : Net) (log : Log) → AreReady may gives parts book → BelongTo net log parts → IsBuilt net log parts.step.steps parts book → question_size net log parts.step.steps ≤ MOST_SIZE →
     AreReadyWith may gives parts book []
-ready_at_first may gives parts book net log ready belong size = record {
+ready_at_first may gives parts book net log ready belong built size = record {
   beside = beside may gives parts book ready;
   own = axioms_of book;
   clauses = ready.coded.clauses;
   both = none_made (axioms_of book);
   made_new = record { once = tt; new = tt; events = tt; faults = tt };
   below = tt;
+  built = built_at_first net log parts book belong built;
   small = few_inputs;
 }
   where
@@ -218,6 +220,7 @@ ready_with_columns may gives old new book entries made some ready keeps adds wit
     faults = with'.made_new.faults;
   });
   below = all_change (λ (e : ℕ × ℕ). e.0 < old.vars) (λ (e : ℕ × ℕ). e.0 < new.vars) made (λ entry less. omega (arith, less, later)) with'.below;
+  built = built_with_columns old new book entries keeps with'.built;
   small = subst (λ inputs. MOST_COLUMNS * length inputs ≤ MOST_SIZE) (sym keeps.counter.inputs) with'.small;
 }
   where
@@ -235,6 +238,7 @@ ready_by_solver may gives parts solver book entries made same ready with' = reco
   both = subst (λ axioms. AreBoth axioms with'.own (some_step_clauses (code_grid parts.step) made)) (sym same) with'.both;
   made_new = with'.made_new;
   below = with'.below;
+  built = built_by_solver parts solver book entries same with'.built;
   small = with'.small;
 }
 
@@ -275,6 +279,7 @@ ready_with_literal may gives parts solver vars book entries made e with' known f
     faults = all_append (λ (x : ℕ × ℕ). is_fault parts.step.net x.1 ≡ true) made ((parts.vars, e) ∷ []) with'.made_new.faults (fault, tt);
   };
   below = all_append (λ (x : ℕ × ℕ). x.0 < vars) made ((parts.vars, e) ∷ []) (all_change (λ (x : ℕ × ℕ). x.0 < parts.vars) (λ (x : ℕ × ℕ). x.0 < vars) made (λ entry less. omega (arith, less, is)) with'.below) (omega (arith, is), tt);
+  built = built_with_literal parts solver vars book entries e known fault is pushed with'.built;
   small = with'.small;
 }
   where

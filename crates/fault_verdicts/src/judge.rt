@@ -94,9 +94,11 @@ impl<'a, R: Fn(u32) -> u64> Judge<'a, R> {
         self.about.net
     }
 
-    /// The book as it stands.
+    /// The book as it stands. The parts that were kept beside it are those of what is judged.
     pub fn into_book(self) -> Ledger
-        ensures { result.entries ≡ self.entry.book }
+        ensures book { result.entries ≡ self.entry.book }
+        ensures belong { BelongTo self.entry.matter.net self.entry.matter.log self.entry.parts }
+        ensures steps { self.entry.parts.step.steps ≡ self.entry.matter.steps }
     {
         let Judge { about: _, kept } = self;
         let Kept {

@@ -1,5 +1,5 @@
 -- What was found is told first, and then the verdicts.
-use Rattle.std.proofs.Common.{◌≡◌, ◌≤◌, ◌∙◌, inl, inr, ℕ, Bool, List, [], ◌∷◌, Option, Result, Ok, Err, refl, sym, ap, subst, append-nil}
+use Rattle.std.proofs.Common.{◌≡◌, ◌≤◌, ◌∙◌, inl, inr, ℕ, ◌+◌, Bool, List, [], ◌∷◌, length, Option, Result, Ok, Err, refl, sym, ap, subst, append-nil, length-append}
 use Rattle.std.specs.List.{concat}
 use Rattle.des_base.specs.Outside.{Took}
 use Rattle.des_net.specs.Network.{Net}
@@ -7,10 +7,13 @@ use Rattle.fault_verdicts.proofs.Calling.{best_run}
 use Rattle.fault_verdicts.proofs.Ready.{ready_at_first}
 use Rattle.fault_verdicts.specs.Judged.{IsBestRun}
 use Rattle.inquiries.specs.Diagnosed.{IsDiagnosed}
+use Rattle.least_faults.proofs.ColumnsBuilt.{question_columns}
+use Rattle.least_faults.specs.Columns.{columns_built}
+use Rattle.least_faults.specs.Growing.{KeepsQuestion}
 use Rattle.least_faults.specs.declared.answer.Best.{Best}
 use Rattle.least_faults.specs.declared.answer.Found.{Found}
 use Rattle.least_faults.specs.declared.answer.Found.TheVariants.{Explained, Absent, Many, Undecided}
-use Rattle.least_faults.specs.Parts.{AreReady, BelongTo}
+use Rattle.least_faults.specs.Parts.{AreReady, BelongTo, IsBuilt}
 use Rattle.least_faults.specs.declared.TheConstants.{MOST_SIZE}
 use Rattle.least_faults.specs.declared.parts.Parts.{Parts}
 use Rattle.log_encode.specs.Drafted.{LogCodeState}
@@ -19,6 +22,7 @@ use Rattle.proof_ledger.specs.Book.{BookEntry}
 use Rattle.replay.specs.QuestionSize.{question_size}
 use Rattle.report.specs.Replies.{text_of_found}
 use Rattle.run_decode.specs.Decoding.{BelongTogether}
+use Rattle.run_decode.specs.QuestionAxioms.{BuiltQuestion, question_built}
 use Rattle.step_encode.specs.Coded.{CodedSteps}
 use Rattle.step_encode.specs.FaultInputs.{fault_events}
 use Rattle.telling.proofs.Taking.{cut_first, took_cut, took_texts}
@@ -43,12 +47,29 @@ belong_still net log old new step code belong =
 
 -- and they are ready for verdicts
 pub stays_ready : {R : Type 0} (may : R → ℕ → Type 0) (gives : R → ℕ → ℕ → Type 0) (net : Net) (log : Log) (n : ℕ) (old new : Parts R) (book : List BookEntry) → old.step.steps ≡ n → new.step ≡ old.step → new.code ≡ old.code → BelongTo net log old → question_size net log n ≤ MOST_SIZE
-    → AreReady may gives new book → StaysReady may gives old new book
-stays_ready may gives net log n old new book time step code belong size ready = record {
+    → IsBuilt net log new.step.steps new book → AreReady may gives new book → StaysReady may gives old new book
+stays_ready may gives net log n old new book time step code belong size built ready = record {
   step = step;
   code = code;
-  ready = ([], ready_at_first may gives new book net log ready (belong_still net log old new step code belong) (subst (λ (k : ℕ). question_size net log k ≤ MOST_SIZE) (sym (ap (λ (s : CodedSteps). s.steps) step ∙ time)) size));
+  ready = ([], ready_at_first may gives new book net log ready (belong_still net log old new step code belong) built (subst (λ (k : ℕ). question_size net log k ≤ MOST_SIZE) (sym (ap (λ (s : CodedSteps). s.steps) step ∙ time)) size));
 }
+
+-- it is built still, with the columns that it got
+pub built_still : {R : Type 0} (net : Net) (log : Log) (old new : Parts R) (book entries : List BookEntry) → KeepsQuestion old new book entries → IsBuilt net log old.step.steps old book → IsBuilt net log new.step.steps new entries
+built_still net log old new book entries keeps built = record {
+  determined =
+      keeps.built
+      ∙ ap (λ (q : BuiltQuestion). columns_built q columns) built.determined
+      ∙ question_columns net log old.step.steps (length old.counter.columns) columns
+      ∙ ap (question_built net log old.step.steps) counted
+      ∙ ap (λ (s : CodedSteps). question_built net log s.steps (length new.counter.columns)) (sym keeps.step);
+}
+  where
+    columns : ℕ
+    columns = length keeps.counter.columns
+
+    counted : length old.counter.columns + columns ≡ length new.counter.columns
+    counted = sym (ap (λ (cs : List (List ℕ)). length cs) keeps.counter.more ∙ length-append old.counter.columns keeps.counter.columns)
 
 -- ---- the reply about the log alone
 

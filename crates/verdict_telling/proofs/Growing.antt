@@ -114,3 +114,7 @@ each_grows {R} s t events before now rose (Err Put) goes =
 pub list_grows : {R : Type 0} (s t : VerdictTeller R) (net : Net) (events : List ℕ) (before now : Option (List ℕ)) (rose : Type 0) (r : Result (Unit {0}) Broken) → events ≡ fault_events net → EachGoes TellsOf (λ (x : VerdictTeller R) (e : ℕ) (y : VerdictTeller R). IsNotTold x y) s events t before now rose r
     → HasGrownWithin (length (fault_events net) * s.judge.matter.budget) s.judge.book t.judge.book
 list_grows s t net events before now rose r is goes = subst (λ (es : List ℕ). HasGrownWithin (length es * s.judge.matter.budget) s.judge.book t.judge.book) is (each_grows s t events before now rose r goes).grown
+
+-- and the same is judged
+pub list_stays : {R : Type 0} (s t : VerdictTeller R) (events : List ℕ) (before now : Option (List ℕ)) (rose : Type 0) (r : Result (Unit {0}) Broken) → EachGoes TellsOf (λ (x : VerdictTeller R) (e : ℕ) (y : VerdictTeller R). IsNotTold x y) s events t before now rose r → t.judge.matter ≡ s.judge.matter
+list_stays s t events before now rose r goes = (each_grows s t events before now rose r goes).stays

@@ -1,13 +1,18 @@
 -- What is left in the book behind what was found.
 use Rattle.std.proofs.Common.{◌≡◌, ◌*◌, ◌∙◌, ℕ, List, [], length, count_by, refl, sym, ap, subst, arith, append-nil}
 use Rattle.des_net.specs.Network.{Net}
+use Rattle.fault_verdicts.proofs.Riders.{asked_alone, asked_at_last}
 use Rattle.fault_verdicts.specs.Judges.{Matter}
+use Rattle.fault_verdicts.specs.Ready.{AreReadyForVerdicts}
+use Rattle.fault_verdicts.specs.Riders.{AreAskedOf}
 use Rattle.inquiries.specs.Begun.{HasLearntWithin, HasQuestion}
 use Rattle.least_faults.proofs.Freshness.{fresh_both}
 use Rattle.least_faults.specs.Answers.{HaveLearntFresh}
 use Rattle.least_faults.specs.Growing.{HasGrownWithin}
+use Rattle.least_faults.specs.Parts.{BelongTo}
+use Rattle.least_faults.specs.declared.parts.Parts.{Parts}
 use Rattle.log_order.specs.Log.{Log}
-use Rattle.proof_ledger.specs.Book.{BookEntry, IsValidBook}
+use Rattle.proof_ledger.specs.Book.{BookEntry, IsValidBook, axioms_of}
 use Rattle.proof_ledger.specs.Fresh.{is_learnt}
 use Rattle.run_decode.proofs.Faults.{count_append}
 use Rattle.step_encode.specs.FaultInputs.{fault_events}
@@ -15,12 +20,13 @@ use Rattle.verdict_telling.specs.Left.{BeginsWithQuestion}
 
 module _ (net : Net) (log : Log) (n budget : ℕ) (first book : List BookEntry) (question : HasQuestion net log n (HasLearntWithin budget) first) where
   -- behind the question fault events were asked about
-  pub left_behind : HasGrownWithin (length (fault_events net) * budget) first book → IsValidBook book → BeginsWithQuestion net log n budget book
-  left_behind grown valid = record {
+  pub left_behind : HasGrownWithin (length (fault_events net) * budget) first book → AreAskedOf net log n (axioms_of book) → IsValidBook book → BeginsWithQuestion net log n budget book
+  left_behind grown asked valid = record {
     first = first;
     question = question;
     since = grown.since;
     whole = grown.whole;
+    asked = asked;
     learnt = record {
       within = (let few = question.beside.within in
           let more = grown.within in
@@ -38,8 +44,19 @@ left_alone net log n budget book question = record {
   question = question;
   since = [];
   whole = sym (append-nil book);
+  asked = asked_alone net log n question.columns (axioms_of book) question.axioms;
   learnt = record { within = (let few = question.beside.within in omega (arith, few)); fresh = question.beside.fresh; valid = question.beside.valid };
 }
+
+-- by the parts of a judge at last, which belong to what is judged
+pub asked_by_judge : {R : Type 0} (may : R → ℕ → Type 0) (gives : R → ℕ → ℕ → Type 0) (net : Net) (log : Log) (n : ℕ) (of begun : Matter) (parts : Parts R) (last new : List BookEntry) → of ≡ begun → begun.net ≡ net → begun.log ≡ log → begun.steps ≡ n → BelongTo of.net of.log parts → parts.step.steps ≡ of.steps
+    → new ≡ last → AreReadyForVerdicts may gives parts last → AreAskedOf net log n (axioms_of new)
+asked_by_judge may gives net log n of begun parts last new stays of_net of_log time belong steps same ready =
+    let here = asked_at_last of.net of.log of.steps parts last belong steps ready.1.built in
+    subst (λ (book : List BookEntry). AreAskedOf net log n (axioms_of book)) (sym same)
+    (subst (λ (k : ℕ). AreAskedOf net log k (axioms_of last)) (ap (λ (m : Matter). m.steps) stays ∙ time)
+    (subst (λ (l : Log). AreAskedOf net l of.steps (axioms_of last)) (ap (λ (m : Matter). m.log) stays ∙ of_log)
+    (subst (λ (m : Net). AreAskedOf m of.log of.steps (axioms_of last)) (ap (λ (m : Matter). m.net) stays ∙ of_net) here)))
 
 -- by what was asked within the steps of the parts
 pub behind_found : (net : Net) (log : Log) (n steps budget : ℕ) (first book : List BookEntry) → steps ≡ n → HasQuestion net log n (HasLearntWithin budget) first → (HasQuestion net log steps (HasLearntWithin budget) first → BeginsWithQuestion net log steps budget book)

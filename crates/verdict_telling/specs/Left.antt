@@ -2,10 +2,11 @@
 use Rattle.std.specs.Prelude.{◌≡◌, ◌⊎◌, ◌+◌, ◌*◌, ℕ, List, [], ◌++◌, length}
 use Rattle.des_net.specs.Network.{Net}
 use Rattle.fault_verdicts.specs.Ready.{AreReadyForVerdicts}
+use Rattle.fault_verdicts.specs.Riders.{AreAskedOf}
 use Rattle.inquiries.specs.Begun.{HasLearntWithin, HasQuestion}
 use Rattle.least_faults.specs.declared.parts.Parts.{Parts}
 use Rattle.log_order.specs.Log.{Log}
-use Rattle.proof_ledger.specs.Book.{BookEntry}
+use Rattle.proof_ledger.specs.Book.{BookEntry, axioms_of}
 use Rattle.step_encode.specs.FaultInputs.{fault_events}
 
 -- The codes of steps and log are the same, and parts and book are ready for verdicts.
@@ -14,12 +15,13 @@ pub record StaysReady {R : Type 0} (may : R → ℕ → Type 0) (gives : R → �
   pub code : new.code ≡ old.code
   pub ready : AreReadyForVerdicts may gives new book
 
--- The question of the log comes first, with no more learnt than the budget says. With what was asked about the fault events behind it, as much again may be learnt for each of them.
+-- The question of the log comes first, with no more learnt than the budget says. Behind its axioms stand, one after another, those of further columns and of variables for fault events, and no others. With what was asked about the fault events, as much again may be learnt for each of them.
 pub record BeginsWithQuestion (net : Net) (log : Log) (n budget : ℕ) (book : List BookEntry) : Type 0 where
   pub first : List BookEntry
   pub question : HasQuestion net log n (HasLearntWithin budget) first
   pub since : List BookEntry
   pub whole : book ≡ first ++ since
+  pub asked : AreAskedOf net log n (axioms_of book)
   pub learnt : HasLearntWithin (budget + length (fault_events net) * budget) book
 
 -- the book is empty, or begins so

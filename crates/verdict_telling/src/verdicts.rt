@@ -79,6 +79,8 @@ fn tell_all<R: Fn(u32) -> u64, S: Sink>(
     requires none_left { teller.old.open_left ≡ false }
     requires ready { AreReadyForVerdicts R.pre R.post teller.old.judge.parts teller.old.judge.book }
     ensures tells { TellsOfAll teller.old teller.new (S.taken out.old) (S.taken out.new) (Rose (S.faults out.old) (S.faults out.new)) result }
+    ensures ready { AreReadyForVerdicts R.pre R.post teller.new.judge.parts teller.new.judge.book }
+    ensures stays { teller.new.judge.matter ≡ teller.old.judge.matter }
     ensures grown { HasGrownWithin (length (fault_events net.now) * teller.old.judge.matter.budget) teller.old.judge.book teller.new.judge.book }
     ensures never_falls { S.faults out.old ≤ S.faults out.new }
     ensures failures { RisesExactlyIf (IsErrOf result Broken.Put) (S.failures out.old) (S.failures out.new) }

@@ -5,7 +5,7 @@ use Rattle.least_faults.proofs.Closing.{grown_not}
 use Rattle.step_encode.specs.FaultInputs.{fault_events}
 use Rattle.telling.proofs.Taking.{nothing_taken}
 use Rattle.verdict_telling.proofs.Ends.{list_told, none_told}
-use Rattle.verdict_telling.proofs.Growing.{list_grows}
+use Rattle.verdict_telling.proofs.Growing.{list_grows, list_stays}
 use Rattle.verdict_telling.proofs.verdicts.tell_all.Goals as goal
 
 pub returns-in-Ok-clause-tells : goal.returns-in-Ok-clause-tells
@@ -21,3 +21,15 @@ returns-in-Ok-clause-grown g c =
 
 pub returns-in-Err-clause-grown : goal.returns-in-Err-clause-grown
 returns-in-Err-clause-grown g c = grown_not _ c.args.teller.now.judge.book
+
+pub returns-in-Ok-clause-stays : goal.returns-in-Ok-clause-stays
+returns-in-Ok-clause-stays g c = list_stays c.args.teller.now c.put_each.new.teller c.as_slice.result.now _ _ _ c.put_each.result c.put_each.ensures.goes
+
+pub returns-in-Err-clause-stays : goal.returns-in-Err-clause-stays
+returns-in-Err-clause-stays g c = refl
+
+pub returns-in-Ok-clause-ready : goal.returns-in-Ok-clause-ready
+returns-in-Ok-clause-ready g c = c.put_each.ensures.ready
+
+pub returns-in-Err-clause-ready : goal.returns-in-Err-clause-ready
+returns-in-Err-clause-ready g c = c.requires.ready

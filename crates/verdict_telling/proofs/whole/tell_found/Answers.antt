@@ -3,7 +3,7 @@ use Rattle.std.proofs.Common.{ℕ, subst}
 use Rattle.inquiries.specs.Begun.{HasLearntWithin, HasQuestion}
 use Rattle.inquiries.specs.Diagnosed.{IsDiagnosed}
 use Rattle.telling.proofs.Taking.{nothing_taken}
-use Rattle.verdict_telling.proofs.Both.{puts_found, stays_ready}
+use Rattle.verdict_telling.proofs.Both.{built_still, puts_found, stays_ready}
 use Rattle.verdict_telling.proofs.Runs.{found_known}
 use Rattle.verdict_telling.proofs.whole.tell_found.Goals as goal
 
@@ -23,11 +23,13 @@ returns-in-Err-clause-tells g c = nothing_taken _
 
 pub returns-in-Ok-clause-stays : goal.returns-in-Ok-clause-stays
 returns-in-Ok-clause-stays g c =
-    stays_ready (goal.R-pre g) (goal.R-post g) c.args.case.now.net c.args.case.now.log c.args.steps c.args.parts.now c.find_least.new.parts c.find_least.new.book.entries c.requires.time c.find_least.ensures.kept.step c.find_least.ensures.kept.code c.requires.begun.parts_of.belong c.requires.size c.find_least.ensures.ready
+    stays_ready (goal.R-pre g) (goal.R-post g) c.args.case.now.net c.args.case.now.log c.args.steps c.args.parts.now c.find_least.new.parts c.find_least.new.book.entries c.requires.time c.find_least.ensures.kept.step c.find_least.ensures.kept.code c.requires.begun.parts_of.belong c.requires.size
+    (built_still c.args.case.now.net c.args.case.now.log c.args.parts.now c.find_least.new.parts c.args.book.now.entries c.find_least.new.book.entries c.find_least.ensures.kept c.requires.begun.parts_of.built) c.find_least.ensures.ready
 
 pub returns-in-Err-clause-stays : goal.returns-in-Err-clause-stays
 returns-in-Err-clause-stays g c =
-    stays_ready (goal.R-pre g) (goal.R-post g) c.args.case.now.net c.args.case.now.log c.args.steps c.args.parts.now c.find_least.new.parts c.find_least.new.book.entries c.requires.time c.find_least.ensures.kept.step c.find_least.ensures.kept.code c.requires.begun.parts_of.belong c.requires.size c.find_least.ensures.ready
+    stays_ready (goal.R-pre g) (goal.R-post g) c.args.case.now.net c.args.case.now.log c.args.steps c.args.parts.now c.find_least.new.parts c.find_least.new.book.entries c.requires.time c.find_least.ensures.kept.step c.find_least.ensures.kept.code c.requires.begun.parts_of.belong c.requires.size
+    (built_still c.args.case.now.net c.args.case.now.log c.args.parts.now c.find_least.new.parts c.args.book.now.entries c.find_least.new.book.entries c.find_least.ensures.kept c.requires.begun.parts_of.built) c.find_least.ensures.ready
 
 pub returns-in-Ok-clause-left : goal.returns-in-Ok-clause-left
 returns-in-Ok-clause-left g c = subst (λ (n : ℕ). HasQuestion c.args.case.now.net c.args.case.now.log n (HasLearntWithin c.args.budget) c.find_least.new.book.entries) c.requires.time c.find_least.ensures.left
