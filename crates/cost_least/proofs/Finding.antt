@@ -6,7 +6,7 @@ use Rattle.event_costs.specs.declared.TheConstants.{MOST_COST}
 use Rattle.des_net.specs.Network.{Net}
 use Rattle.log_order.specs.Log.{Log}
 use Rattle.least_faults.proofs.Freshness.{fresh_axioms, fresh_both, fresh_mark}
-use Rattle.least_faults.proofs.Putting.{learnt_no_final, no_final_in, none_final, none_joined, none_marked}
+use Rattle.least_faults.proofs.Putting.{learnt_no_final, no_final_in, none_final, none_joined, none_marked, only_final}
 use Rattle.least_faults.specs.Answers.{HaveLearntFresh}
 use Rattle.least_faults.specs.Asking.{IsSearching}
 use Rattle.least_faults.specs.Evidence.{is_final, HasFinal, HasLastFinal}
@@ -16,14 +16,15 @@ use Rattle.log_encode.specs.CodedLog.{CodedLog}
 use Rattle.log_encode.specs.Drafted.{LogCodeState}
 use Rattle.proof_ledger.specs.Book.{BookEntry, axiomatic, final, mark, axioms_of, clauses_of, is_mark}
 use Rattle.proof_ledger.specs.Fresh.{is_learnt}
-use Rattle.prop_core.specs.Clauses.{Clause}
+use Rattle.prop_core.specs.Clauses.{Clause, NegatesOnly}
 use Rattle.prop_core.specs.Trail.{Clashes}
 use Rattle.prop_core.specs.declared.lit.Lit.{Lit}
 use Rattle.run_decode.proofs.Faults.{count_append}
+use Rattle.sat_solve.specs.Searching.{IsClosedByFinal}
 use Rattle.step_encode.specs.Coded.{CodedSteps}
 use Rattle.weight_counter.specs.declared.scale.Scale.{Scale}
-use Rattle.cost_least.specs.Answers.{CostAsked, PoseCostQuestion, IsCostEvidence, IsCheapFound, HasConflictOf, HasConflictAt, HasCostConflict, IsCostAnswered, IsKnownAbove}
-use Rattle.cost_least.specs.Asking.{HasAskedCost}
+use Rattle.cost_least.specs.Answers.{CostAsked, FinalsNegateCosts, NegatesCost, PoseCostQuestion, IsCostEvidence, IsCheapFound, HasConflictOf, HasConflictAt, HasCostConflict, IsCostAnswered, IsKnownAbove}
+use Rattle.cost_least.specs.Asking.{EndsByFinal, HasAskedCost}
 use Rattle.cost_least.specs.Searching.{HasFoundCost, asked_of}
 use Rattle.cost_least.specs.Weighed.{AreWeighedParts, KeepsCode, assumed_at}
 use Rattle.cost_least.specs.declared.answer.Cheap.{Cheap}
@@ -52,13 +53,14 @@ coded_back cost old new axioms scale keeps coded =
 
 -- ---- what a search puts
 
-pub found_by : (q : CostAsked) (old new : List BookEntry) (budget left : ℕ) (searching : IsSearching old new budget left) (cheap : Cheap) → HasConflictOf q new cheap → IsCheapFound q (axioms_of new) searching.since budget cheap → HasFoundCost q budget old new cheap
-found_by q old new budget left searching cheap conflict is = record {
+pub found_by : (q : CostAsked) (old new : List BookEntry) (budget left : ℕ) (searching : IsSearching old new budget left) (cheap : Cheap) → HasConflictOf q new cheap → FinalsNegateCosts q (axioms_of new) searching.since → IsCheapFound q (axioms_of new) searching.since budget cheap → HasFoundCost q budget old new cheap
+found_by q old new budget left searching cheap conflict finals is = record {
   since = searching.since;
   whole = searching.whole;
   unmarked = searching.unmarked;
   within = (let paid = searching.paid in omega (arith, paid));
   fresh = searching.fresh;
+  finals = finals;
   found = is;
   conflict = conflict;
 }
@@ -66,8 +68,18 @@ found_by q old new budget left searching cheap conflict is = record {
 -- ---- without a bound
 
 module _ (q : CostAsked) (code : CodedLog) (scale : Scale) (old new : List BookEntry) (before after : ℕ) where
+  -- the one final entry negates what is assumed without a bound
+  final_without : PoseCostQuestion q None (axioms_of new) (assumed_at code scale None) → (asked : HasAskedCost q code scale None old new before after Refuted) → FinalsNegateCosts q (axioms_of new) asked.searching.since
+  final_without told asked clause hints in' = record { bound = None; few = tt; assumed = assumed_at code scale None; told = told; negates = subst (NegatesOnly (assumed_at code scale None)) (sym (only_final asked.searching.since clause hints closed in')) ends.negates }
+    where
+      ends : EndsByFinal (assumed_at code scale None) asked.searching.since
+      ends = asked.means.ends
+
+      closed : IsClosedByFinal asked.searching.since
+      closed = record { before = ends.before; clause = ends.clause; hints = ends.hints; whole = ends.whole; all_learnt = ends.learnt }
+
   pub found_absent : PoseCostQuestion q None (axioms_of new) (assumed_at code scale None) → HasAskedCost q code scale None old new before after Refuted → HasFoundCost q before old new Absent
-  found_absent told asked = found_by q old new before after asked.searching Absent tt (record {
+  found_absent told asked = found_by q old new before after asked.searching Absent tt (final_without told asked) (record {
     absent = asked.means.out;
     evidence = record {
       assumed = assumed_at code scale None;
@@ -77,13 +89,14 @@ module _ (q : CostAsked) (code : CodedLog) (scale : Scale) (old new : List BookE
   })
 
   pub found_nothing : PoseCostQuestion q None (axioms_of new) (assumed_at code scale None) → HasAskedCost q code scale None old new before after Spent → HasFoundCost q before old new (Undecided 0 None)
-  found_nothing told asked = found_by q old new before after asked.searching (Undecided 0 None) (record { assumed = assumed_at code scale None; told = told; clashes = asked.means.clashes }) (record {
-    spent = (let paid = asked.searching.paid in let nothing = asked.means.nothing in omega (arith, paid, nothing));
-    needs = λ word order explains. omega arith;
-    evidence = λ b is. absurd (omega (arith, is));
-    given = tt;
-    unknown = (refl, learnt_no_final asked.searching.since asked.means.learnt);
-  })
+  found_nothing told asked = found_by q old new before after asked.searching (Undecided 0 None) (record { assumed = assumed_at code scale None; told = told; clashes = asked.means.clashes })
+      (λ clause hints in'. absurd (no_final_in asked.searching.since clause hints (learnt_no_final asked.searching.since asked.means.learnt) in')) (record {
+        spent = (let paid = asked.searching.paid in let nothing = asked.means.nothing in omega (arith, paid, nothing));
+        needs = λ word order explains. omega arith;
+        evidence = λ b is. absurd (omega (arith, is));
+        given = tt;
+        unknown = (refl, learnt_no_final asked.searching.since asked.means.learnt);
+      })
 
 -- ---- where entries came before, none of which is final
 
@@ -108,6 +121,13 @@ module _ (q : CostAsked) (axioms : List Clause) (front since : List BookEntry) (
       by : Contains front (final has.clause has.hints) ⊎ Contains since (final has.clause has.hints) → Contains since (final has.clause has.hints)
       by (inl here) = absurd (no_final_in front has.clause has.hints none here)
       by (inr here) = here
+
+  pub finals_later : FinalsNegateCosts q axioms since → FinalsNegateCosts q axioms (front ++ since)
+  finals_later finals clause hints in' = by (Contains-append_cases front since (final clause hints) in')
+    where
+      by : Contains front (final clause hints) ⊎ Contains since (final clause hints) → NegatesCost q axioms clause
+      by (inl here) = absurd (no_final_in front clause hints none here)
+      by (inr here) = finals clause hints here
 
   known_later : (lo : ℕ) (best : Option Priced) → IfSome best (IsKnownAbove q axioms since lo) → IfSome best (IsKnownAbove q axioms (front ++ since) lo)
   known_later lo None given = tt
@@ -148,6 +168,7 @@ found_later q budget left old mid new front answer whole unmarked none paid fres
   unmarked = λ number. count_append (is_mark number) front found.since ∙ (let one = unmarked number in let two = found.unmarked number in omega (arith, one, two));
   within = (let count = count_append is_learnt front found.since in let less = found.within in omega (arith, count, less, paid));
   fresh = fresh_both old mid front found.since whole fresh found.fresh;
+  finals = finals_later q (axioms_of new) front found.since none found.finals;
   found = is_found_later q (axioms_of new) front found.since none budget left answer paid found.found;
   conflict = found.conflict;
 }
@@ -180,6 +201,7 @@ answered_by q budget old opened searched new answer begins ends found =
       unmarked = found.unmarked;
       within = found.within;
       fresh = subst (λ (earlier : List BookEntry). HaveLearntFresh earlier found.since) begins found.fresh;
+      finals = subst (λ (cs : List Clause). FinalsNegateCosts q cs found.since) (sym axioms) found.finals;
       found = subst (λ (cs : List Clause). IsCheapFound q cs found.since budget answer) (sym axioms) found.found;
       conflict = conflict_closed q searched new answer axioms clauses found.conflict;
     }

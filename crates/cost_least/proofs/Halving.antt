@@ -25,7 +25,7 @@ use Rattle.weight_counter.specs.Scales.{place_variable}
 use Rattle.weight_counter.specs.declared.scale.Scale.{Scale}
 use Rattle.cost_least.proofs.Asked.{ends_cheapest, ends_dear, needed}
 use Rattle.cost_least.proofs.Finding.{found_by}
-use Rattle.cost_least.specs.Answers.{CostAsked, PoseCostQuestion, IsPriced, Needs, IsBetween, IsCostEvidence}
+use Rattle.cost_least.specs.Answers.{CostAsked, FinalsNegateCosts, PoseCostQuestion, IsPriced, Needs, IsBetween, IsCostEvidence}
 use Rattle.cost_least.specs.Asking.{HasAskedCost}
 use Rattle.cost_least.specs.Pricing.{ExplainsAt}
 use Rattle.cost_least.specs.Searching.{HasHalved, HasFoundCost, FinalsAreBelowTotal}
@@ -139,11 +139,21 @@ module _ (q : CostAsked) (code : CodedLog) (scale : Scale) where
         let reached = come.reached in
         record { assumed = assumed_at code scale (Some b); refuted = come.last b is; told = told b (omega (arith, is, reached)) (come.counted (omega (arith, least, is))) }
 
+    -- each final entry refutes a total below lo, which is one that may be asked for
+    finals_negate : FinalsNegateCosts q (axioms_of new) come.searching.since
+    finals_negate clause hints in' =
+        let found = come.finals clause hints in' in
+        let low = found.1 in
+        let least = needed q lo best come.needs come.given in
+        let reached = come.reached in
+        let few : found.0 ≤ MOST_COST = omega (arith, low, reached) in
+        record { bound = Some found.0; few = few; assumed = assumed_at code scale (Some found.0); told = told found.0 few (come.counted (omega (arith, least, low))); negates = found.2 }
+
     pub halved_cheapest : min best.cost (1 + MOST_COST) ≤ lo → best.cost ≤ MOST_COST → HasFoundCost q budget old new (Found best)
-    halved_cheapest end few = found_by q old new budget left come.searching (Found best) tt (ends_cheapest q (axioms_of new) come.searching.since lo best come.needs come.given end few evidence)
+    halved_cheapest end few = found_by q old new budget left come.searching (Found best) tt finals_negate (ends_cheapest q (axioms_of new) come.searching.since lo best come.needs come.given end few evidence)
 
     pub halved_dear : min best.cost (1 + MOST_COST) ≤ lo → MOST_COST < best.cost → HasFoundCost q budget old new (Dear best.run)
-    halved_dear end above = found_by q old new budget left come.searching (Dear best.run) tt (ends_dear q (axioms_of new) come.searching.since lo best come.needs come.given end come.reached above evidence)
+    halved_dear end above = found_by q old new budget left come.searching (Dear best.run) tt finals_negate (ends_dear q (axioms_of new) come.searching.since lo best come.needs come.given end come.reached above evidence)
 
     -- a final entry tells by its literals which total it refutes
     finals_tell : IsValidBook new → HasValues scale.first (log_guards code) → PoseCostQuestion q None (axioms_of new) (assumed_at code scale None) → (b : ℕ) → HasFinal come.searching.since (assumed_at code scale (Some b)) → b < lo
@@ -186,7 +196,7 @@ module _ (q : CostAsked) (code : CodedLog) (scale : Scale) where
         Clashes (clauses_of new) (assumed_at code scale (Some b)) → HasFoundCost q budget old new (Undecided lo (Some best))
     halved_undecided valid guards unbounded less nothing b between clashes =
         let some = come.counted (omega (arith, less)) in
-        found_by q old new budget left come.searching (Undecided lo (Some best)) (b, between, record { assumed = assumed_at code scale (Some b); told = told b between.few some; clashes = clashes }) (record {
+        found_by q old new budget left come.searching (Undecided lo (Some best)) (b, between, record { assumed = assumed_at code scale (Some b); told = told b between.few some; clashes = clashes }) finals_negate (record {
           spent = (let paid = come.searching.paid in omega (arith, paid, nothing));
           needs = come.needs;
           evidence = evidence;

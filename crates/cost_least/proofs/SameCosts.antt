@@ -166,6 +166,7 @@ module _ (net : Net) (a b : ℕ → ℕ) (agree : (e : ℕ) → is_fault net e �
       unmarked = h.unmarked;
       within = h.within;
       fresh = h.fresh;
+      finals = λ clause hints in'. let is = h.finals clause hints in' in record { bound = is.bound; few = is.few; assumed = is.assumed; told = same_told is.bound _ is.assumed is.told; negates = is.negates };
       found = same_found _ h.since budget answer h.found;
       conflict = same_conflict new answer h.conflict;
     }

@@ -1,5 +1,5 @@
 -- What is found of the least total of an explanation, and what each answer means.
-use Rattle.std.specs.Prelude.{◌≡◌, ℕ, suc, ◌<◌, ◌≤◌, ⊤, false, List, [], ◌∷◌, ◌++◌, Option, Some, None, IfSome, IfNone, count_by}
+use Rattle.std.specs.Prelude.{◌≡◌, ℕ, suc, ◌<◌, ◌≤◌, ⊤, false, List, [], ◌∷◌, ◌++◌, Option, Some, None, IfSome, IfNone, Contains, count_by}
 use Rattle.std.specs.List.{list_any}
 use Rattle.des_net.specs.Network.{Net}
 use Rattle.event_costs.specs.declared.TheConstants.{MOST_COST}
@@ -7,9 +7,9 @@ use Rattle.least_faults.specs.Answers.{HaveLearntFresh}
 use Rattle.least_faults.specs.Evidence.{is_final, HasFinal, HasLastFinal}
 use Rattle.log_encode.specs.CodedLog.{CodedLog}
 use Rattle.log_order.specs.Log.{Log}
-use Rattle.proof_ledger.specs.Book.{BookEntry, mark, axioms_of, clauses_of, is_mark}
+use Rattle.proof_ledger.specs.Book.{BookEntry, final, mark, axioms_of, clauses_of, is_mark}
 use Rattle.proof_ledger.specs.Fresh.{is_learnt}
-use Rattle.prop_core.specs.Clauses.{Clause}
+use Rattle.prop_core.specs.Clauses.{Clause, NegatesOnly}
 use Rattle.prop_core.specs.Trail.{Clashes}
 use Rattle.prop_core.specs.declared.lit.Lit.{Lit}
 use Rattle.replay.specs.Explanation.{Explains, IsAbsent}
@@ -54,6 +54,18 @@ pub record IsCostEvidence (q : CostAsked) (bound : Option ℕ) (axioms : List Cl
   pub assumed : List Lit
   pub refuted : HasLastFinal since assumed
   pub told : PoseCostQuestion q bound axioms assumed
+
+-- the clause has no literals but negations of what is assumed for a total of at most 1,000, or without one, with which the axioms tell what explains within it
+pub record NegatesCost (q : CostAsked) (axioms : List Clause) (clause : Clause) : Type 0 where
+  pub bound : Option ℕ
+  pub few : IfSome bound (λ b. b ≤ MOST_COST)
+  pub assumed : List Lit
+  pub told : PoseCostQuestion q bound axioms assumed
+  pub negates : NegatesOnly assumed clause
+
+-- so it is with each final entry
+abbrev pub FinalsNegateCosts : CostAsked → List Clause → List BookEntry → Type 0
+FinalsNegateCosts q axioms since = (clause : Clause) (hints : List ℕ) → Contains since (final clause hints) → NegatesCost q axioms clause
 
 -- ---- the answers, with what the entries since the question was opened show, over these axioms
 
@@ -132,12 +144,13 @@ HasConflictOf q book Absent = ⊤
 HasConflictOf q book (Dear run) = ⊤
 HasConflictOf q book (Undecided lo best) = HasConflictAt q book lo best
 
--- The question was opened by a mark 0 and closed by a mark 1, and the entries between show what was found. At most as many clauses as the budget says were learnt, each of them fresh.
+-- The question was opened by a mark 0 and closed by a mark 1, and the entries between show what was found. At most as many clauses as the budget says were learnt, each of them fresh, and each final one has no literals but negations of what is assumed for some total, or without one.
 pub record IsCostAnswered (q : CostAsked) (budget : ℕ) (old new : List BookEntry) (answer : Cheap) : Type 0 where
   pub since : List BookEntry
   pub whole : new ≡ old ++ mark 0 ∷ since ++ mark 1 ∷ []
   pub unmarked : (number : ℕ) → count_by (is_mark number) since ≡ 0
   pub within : count_by is_learnt since ≤ budget
   pub fresh : HaveLearntFresh (old ++ mark 0 ∷ []) since
+  pub finals : FinalsNegateCosts q (axioms_of new) since
   pub found : IsCheapFound q (axioms_of new) since budget answer
   pub conflict : HasConflictOf q new answer

@@ -20,7 +20,7 @@ use Rattle.run_decode.specs.Decided.{Entails}
 use Rattle.sat_solve.specs.Searching.{IsAnswer, IsPutFor}
 use Rattle.sat_solve.specs.declared.answer.Answer.{Answer}
 use Rattle.cost_least.specs.Asking.{RulesOut}
-use Rattle.cost_least.specs.Answers.{CostAsked, PoseCostQuestion, IsPriced, Needs, IsCheapFound, HasConflictOf, IsCostAnswered}
+use Rattle.cost_least.specs.Answers.{CostAsked, FinalsNegateCosts, PoseCostQuestion, IsPriced, Needs, IsCheapFound, HasConflictOf, IsCostAnswered}
 use Rattle.cost_least.specs.Weighed.{AreWeighed, AreWeighedParts, AreWeightedInputs, KeepsCode, assumed_at}
 use Rattle.cost_least.specs.declared.answer.Cheap.{Cheap}
 use Rattle.cost_least.specs.declared.answer.Priced.{Priced}
@@ -74,13 +74,14 @@ pub record HasHalved (q : CostAsked) (code : CodedLog) (scale : Scale) (old new 
   pub given : IsPriced q best
   pub counted : 0 < best.cost → 0 < scale.inputs
 
--- The entries that were put show what was found, and no more clauses were learnt than the budget says, each of them fresh.
+-- The entries that were put show what was found, and no more clauses were learnt than the budget says, each of them fresh. Each final entry negates what is assumed for some total, or without one.
 pub record HasFoundCost (q : CostAsked) (budget : ℕ) (old new : List BookEntry) (answer : Cheap) : Type 0 where
   pub since : List BookEntry
   pub whole : new ≡ old ++ since
   pub unmarked : (number : ℕ) → count_by (is_mark number) since ≡ 0
   pub within : count_by is_learnt since ≤ budget
   pub fresh : HaveLearntFresh old since
+  pub finals : FinalsNegateCosts q (axioms_of new) since
   pub found : IsCheapFound q (axioms_of new) since budget answer
   pub conflict : HasConflictOf q new answer
 

@@ -1,7 +1,7 @@
 -- What a question about an event comes to, by the answer of the solver; and what it is between its marks.
-use Rattle.std.proofs.Common.{◌≡◌, ◌↔◌, ◌∙◌, inl, inr, ℕ, ◌<◌, ◌≤◌, Bool, true, List, [], ◌∷◌, ◌++◌, length, map, Result, Ok, Err, IfOk, refl, sym, ap, subst, arith, Contains, IsTrue, count_by, append_assoc}
+use Rattle.std.proofs.Common.{◌≡◌, ◌↔◌, ◌∙◌, ◌⊎◌, inl, inr, ℕ, ◌<◌, ◌≤◌, Bool, true, List, [], ◌∷◌, ◌++◌, length, map, Result, Ok, Err, IfOk, refl, sym, ap, subst, arith, Contains, IsTrue, count_by, append_assoc}
 use Rattle.std.proofs.lemmas.List.{append_cancel_left}
-use Rattle.std.proofs.lemmas.List.Elements.{Contains-append_right as append_right}
+use Rattle.std.proofs.lemmas.List.Elements.{Contains-append_cases as append_cases, Contains-append_right as append_right}
 use Rattle.std.specs.List.{list_all}
 use Rattle.card_counter.specs.Counting.{true_count}
 use Rattle.des_base.proofs.Elements.{all_from as all_of, all_split, here_first}
@@ -10,15 +10,15 @@ use Rattle.fault_verdicts.proofs.Asking.{HasPosed, has_posed}
 use Rattle.fault_verdicts.proofs.Events.{few_true, run_has, true_run_of}
 use Rattle.fault_verdicts.proofs.Going.{belong_on, ready_after_search}
 use Rattle.fault_verdicts.proofs.Judged.{asked_beside, open_found, possible_found, refuted_found}
-use Rattle.fault_verdicts.specs.Asked.{some_step_clauses}
-use Rattle.fault_verdicts.specs.Judged.{IsBestRun, IsJudged, IsQuestionAbout, IsVerdict}
+use Rattle.fault_verdicts.specs.Asked.{IsPosedOf, some_step_clauses}
+use Rattle.fault_verdicts.specs.Judged.{FinalsNegateAssumed, IsBestRun, IsJudged, IsVerdict}
 use Rattle.fault_verdicts.specs.Judging.{AreAssumedOf, IsSolvedAbout, IsSaidBy, IsVerdictShown, KeepsStepsAndLog, bound_for, verdict_of}
 use Rattle.fault_verdicts.specs.declared.answer.Verdict.{Verdict}
 use Rattle.fault_verdicts.specs.declared.answer.Verdict.TheVariants.{Possible, Open}
 use Rattle.least_faults.proofs.Asked.{axioms_true, searching_both}
 use Rattle.least_faults.proofs.Assuming.{negates_only}
 use Rattle.least_faults.proofs.Entailing.{final_entailed}
-use Rattle.least_faults.proofs.Putting.{same_last}
+use Rattle.least_faults.proofs.Putting.{learnt_no_final, no_final_in, none_final, none_joined, only_final, same_last}
 use Rattle.least_faults.specs.Evidence.{HasFinal}
 use Rattle.least_faults.specs.Growing.{AddsAxioms}
 use Rattle.least_faults.specs.Parts.{BelongTo}
@@ -28,7 +28,7 @@ use Rattle.log_order.specs.Log.{Log, IsValidLog}
 use Rattle.log_order.specs.Order.{least_order}
 use Rattle.proof_ledger.specs.Book.{BookEntry, axiomatic, final, mark, axioms_of, clauses_of, IsValidBook}
 use Rattle.proof_ledger.specs.Fresh.{is_learnt, AreFresh}
-use Rattle.prop_core.specs.Clauses.{clause_true, is_true, literal_true, negation, value_in, AllClausesTrue, AllLiteralsTrue}
+use Rattle.prop_core.specs.Clauses.{clause_true, is_true, literal_true, negation, value_in, AllClausesTrue, AllLiteralsTrue, NegatesOnly}
 use Rattle.prop_core.specs.declared.lit.Lit.{Lit}
 use Rattle.replay.specs.Explanation.{Explains, faults_of}
 use Rattle.replay.specs.Matching.{IsWellMatched, order_of}
@@ -36,7 +36,7 @@ use Rattle.replay.specs.Traced.{word_of}
 use Rattle.replay.specs.declared.run.RunStep.{RunStep}
 use Rattle.run_decode.specs.Decoding.{IsTrueRun, decoded_run}
 use Rattle.run_decode.specs.RunNaming.{AreFalseLiterals, truth_of}
-use Rattle.sat_solve.specs.Searching.{HasPut, IsAnswer, IsModel, IsRefuted, IsSearched}
+use Rattle.sat_solve.specs.Searching.{AreLearnt, HasPut, IsAnswer, IsModel, IsRefuted, IsSearched}
 use Rattle.sat_solve.specs.Solving.{KeepsSize, SolverState}
 use Rattle.sat_solve.specs.declared.answer.Answer.{Answer}
 use Rattle.sat_solve.specs.declared.answer.Answer.TheVariants.{Sat, Unsat, Spent}
@@ -81,6 +81,32 @@ ends old mid new before after assumed adds searched number put refuted =
       negates = negates_only assumed put.put.clause (subst (λ c. list_all (λ l. is_true assumed (negation l)) c ≡ true) (sym clause) refuted.negated);
     }
 
+-- axioms, and then learnt entries alone
+none_put : (old mid new : List BookEntry) (before after : ℕ) (assumed : List Lit) (adds : AddsAxioms old mid) (searched : IsSearched mid new before after) (since : List BookEntry) → new ≡ mid ++ since → AreLearnt since → FinalsNegateAssumed assumed (map axiomatic adds.axioms ++ searched.since)
+none_put old mid new before after assumed adds searched since whole all clause hints in' =
+    let same : since ≡ searched.since = append_cancel_left mid since searched.since (sym whole ∙ searched.whole) in
+    absurd (no_final_in (map axiomatic adds.axioms ++ searched.since) clause hints (none_joined (map axiomatic adds.axioms) searched.since (none_final adds.axioms) (learnt_no_final searched.since (subst AreLearnt same all))) in')
+
+-- axioms, learnt entries, and then a final one
+one_put : (old mid new : List BookEntry) (before after : ℕ) (assumed : List Lit) (adds : AddsAxioms old mid) (searched : IsSearched mid new before after) (number : ℕ) → HasPut mid new (Unsat number) → IsRefuted new assumed number → FinalsNegateAssumed assumed (map axiomatic adds.axioms ++ searched.since)
+unfolding ends
+one_put old mid new before after assumed adds searched number put refuted clause hints in' = by (append_cases (map axiomatic adds.axioms) searched.since (final clause hints) in')
+  where
+    same : put.since ≡ searched.since
+    same = append_cancel_left mid put.since searched.since (sym put.whole ∙ searched.whole)
+
+    negates : NegatesOnly assumed put.put.clause
+    negates = (ends old mid new before after assumed adds searched number put refuted).negates
+
+    by : Contains (map axiomatic adds.axioms) (final clause hints) ⊎ Contains searched.since (final clause hints) → NegatesOnly assumed clause
+    by (inl there) = absurd (no_final_in (map axiomatic adds.axioms) clause hints (none_final adds.axioms) there)
+    by (inr here) = subst (NegatesOnly assumed) (sym (only_final put.since clause hints put.put (subst (λ (es : List BookEntry). Contains es (final clause hints)) (sym same) here))) negates
+
+finals_by : (old mid new : List BookEntry) (before after : ℕ) (values : List Bool) (assumed : List Lit) (adds : AddsAxioms old mid) (searched : IsSearched mid new before after) (answer : Answer) → HasPut mid new answer → IsAnswer values new assumed after answer → FinalsNegateAssumed assumed (map axiomatic adds.axioms ++ searched.since)
+finals_by old mid new before after values assumed adds searched Sat put is = none_put old mid new before after assumed adds searched put.since put.whole put.put
+finals_by old mid new before after values assumed adds searched (Unsat number) put is = one_put old mid new before after assumed adds searched number put is
+finals_by old mid new before after values assumed adds searched Spent put is = none_put old mid new before after assumed adds searched put.since put.whole put.put
+
 said_by : (old mid new : List BookEntry) (before after : ℕ) (values : List Bool) (assumed : List Lit) (adds : AddsAxioms old mid) (searched : IsSearched mid new before after) (answer : Answer) → HasPut mid new answer → IsAnswer values new assumed after answer → IsSaidBy values (map axiomatic adds.axioms ++ searched.since) new assumed after answer
 said_by old mid new before after values assumed adds searched Sat put is = is
 said_by old mid new before after values assumed adds searched (Unsat number) put is = ends old mid new before after assumed adds searched number put is
@@ -102,6 +128,7 @@ solved may gives parts solver k e there assumed slice old mid new before after (
     whole = are.whole;
   };
   searching = searching_both old mid new before after adds searched are.ready.beside.known;
+  finals = finals_by old mid new before after solver.assignment assumed adds searched answer put (subst (λ (xs : List Lit). IsAnswer solver.assignment new xs after answer) same is);
   says = said_by old mid new before after solver.assignment assumed adds searched answer put (subst (λ (xs : List Lit). IsAnswer solver.assignment new xs after answer) same is);
 }
 
@@ -123,6 +150,7 @@ module _ {R : Type 0} (may : R → ℕ → Type 0) (gives : R → ℕ → ℕ �
   with_verdict verdict found = record {
     searching = is.searching;
     asked = record { question = has.question; asked = asked_beside first e has.question there told has.is_for; assumed = is.assumed; posed = has.posed };
+    finals = is.finals;
     found = found;
   }
 
@@ -178,7 +206,13 @@ judged net log n k e budget left first old opened asked new verdict begins close
   unmarked = is.searching.unmarked;
   within = (let paid = is.searching.paid in omega (arith, paid));
   fresh = subst (λ b. AreFresh b is.searching.since (count_by is_learnt is.searching.since)) begins is.searching.fresh;
-  asked = subst (λ axioms. IsQuestionAbout axioms net log n k e first) (sym (ap axioms_of closes ∙ marked_axioms asked 1)) is.asked;
+  asked = record {
+    question = is.asked.question;
+    asked = is.asked.asked;
+    assumed = is.asked.assumed;
+    posed = subst (λ axioms. IsPosedOf axioms is.asked.assumed net log n k e is.asked.question) (sym (ap axioms_of closes ∙ marked_axioms asked 1)) is.asked.posed;
+  };
+  finals = is.finals;
   found = subst (λ axioms. IsVerdict axioms (clauses_of new) (old ++ mark 0 ∷ []) is.searching.since net log n k e budget first verdict) (sym (ap axioms_of closes ∙ marked_axioms asked 1))
       (subst (λ clauses. IsVerdict (axioms_of asked) clauses (old ++ mark 0 ∷ []) is.searching.since net log n k e budget first verdict) (sym (ap clauses_of closes ∙ marked_clauses asked 1))
       (subst (λ b. IsVerdict (axioms_of asked) (clauses_of asked) b is.searching.since net log n k e budget first verdict) begins is.found));

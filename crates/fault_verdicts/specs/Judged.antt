@@ -8,9 +8,9 @@ use Rattle.fault_verdicts.specs.declared.answer.Verdict.TheVariants.{Certain, Ex
 use Rattle.least_faults.specs.Answers.{HaveLearntFresh}
 use Rattle.least_faults.specs.Evidence.{HasFinal}
 use Rattle.log_order.specs.Log.{Log}
-use Rattle.proof_ledger.specs.Book.{BookEntry, mark, axioms_of, clauses_of, is_mark}
+use Rattle.proof_ledger.specs.Book.{BookEntry, final, mark, axioms_of, clauses_of, is_mark}
 use Rattle.proof_ledger.specs.Fresh.{AreFresh, is_learnt}
-use Rattle.prop_core.specs.Clauses.{Clause}
+use Rattle.prop_core.specs.Clauses.{Clause, NegatesOnly}
 use Rattle.prop_core.specs.Trail.{Clashes}
 use Rattle.prop_core.specs.declared.lit.Lit.{Lit}
 use Rattle.replay.specs.Matching.{IsWellMatched, order_of}
@@ -59,6 +59,10 @@ pub record IsOpenFound (axioms clauses : List Clause) (earlier since : List Book
   pub posed : IsPosedOf axioms assumed net log n k e question
   pub clashes : Clashes clauses assumed
 
+-- each final entry has no literals but negations of what is assumed
+abbrev pub FinalsNegateAssumed : List Lit → List BookEntry → Type 0
+FinalsNegateAssumed assumed entries = (clause : Clause) (hints : List ℕ) → Contains entries (final clause hints) → NegatesOnly assumed clause
+
 -- The axioms pose the question about the event, with some assumptions, beside the best run that is known.
 pub record IsQuestionAbout (axioms : List Clause) (net : Net) (log : Log) (n k e : ℕ) (first : List RunStep) : Type 0 where
   pub question : Question
@@ -73,7 +77,7 @@ IsVerdict axioms clauses earlier since net log n k e budget first Excluded = IsE
 IsVerdict axioms clauses earlier since net log n k e budget first (Possible other) = IsPossibleFound net log n k e first other
 IsVerdict axioms clauses earlier since net log n k e budget first Open = IsOpenFound axioms clauses earlier since net log n k e budget first
 
--- The question was opened by a mark 0 and closed by a mark 1, and the entries between show the verdict. Whatever it is, all axioms of the book pose the question. At most as many clauses as the budget says were learnt, each of them fresh.
+-- The question was opened by a mark 0 and closed by a mark 1, and the entries between show the verdict. Whatever it is, all axioms of the book pose the question, with some assumptions that each final entry negates. At most as many clauses as the budget says were learnt, each of them fresh.
 pub record IsJudged (net : Net) (log : Log) (n k e budget : ℕ) (first : List RunStep) (old new : List BookEntry) (verdict : Verdict) : Type 0 where
   pub since : List BookEntry
   pub whole : new ≡ old ++ mark 0 ∷ since ++ mark 1 ∷ []
@@ -81,4 +85,5 @@ pub record IsJudged (net : Net) (log : Log) (n k e budget : ℕ) (first : List R
   pub within : count_by is_learnt since ≤ budget
   pub fresh : HaveLearntFresh (old ++ mark 0 ∷ []) since
   pub asked : IsQuestionAbout (axioms_of new) net log n k e first
+  pub finals : FinalsNegateAssumed asked.assumed since
   pub found : IsVerdict (axioms_of new) (clauses_of new) (old ++ mark 0 ∷ []) since net log n k e budget first verdict

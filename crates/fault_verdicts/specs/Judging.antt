@@ -4,7 +4,7 @@ use Rattle.card_counter.specs.CounterState.{CounterState, positive}
 use Rattle.des_base.specs.Lists.{numbers_below}
 use Rattle.des_net.specs.Network.{Net}
 use Rattle.fault_verdicts.specs.Asked.{no_step_literals}
-use Rattle.fault_verdicts.specs.Judged.{IsQuestionAbout, IsVerdict}
+use Rattle.fault_verdicts.specs.Judged.{FinalsNegateAssumed, IsQuestionAbout, IsVerdict}
 use Rattle.fault_verdicts.specs.Ready.{AreReadyWith}
 use Rattle.fault_verdicts.specs.declared.answer.Verdict.{Verdict}
 use Rattle.fault_verdicts.specs.declared.answer.Verdict.TheVariants.{Certain, Excluded}
@@ -76,11 +76,12 @@ IsSaidBy values since book assumed left Sat = IsModel values book assumed
 IsSaidBy values since book assumed left (Unsat number) = HasFinal since assumed
 IsSaidBy values since book assumed left Spent = IsSpent book assumed left
 
--- The solver was asked under what is assumed of the event, and says this.
+-- The solver was asked under what is assumed of the event, and says this. Each final entry that it put negates that.
 pub record IsSolvedAbout {R : Type 0} (may : R → ℕ → Type 0) (gives : R → ℕ → ℕ → Type 0) (parts : Parts R) (k e : ℕ) (there : Bool) (old new : List BookEntry) (left_old left_new : ℕ) (answer : Answer) : Type 0 where
   pub assumed : List Lit
   pub are : AreAssumedOf may gives parts new k e there assumed
   pub searching : IsSearching old new left_old left_new
+  pub finals : FinalsNegateAssumed assumed searching.since
   pub says : IsSaidBy parts.solver.assignment searching.since new assumed left_new answer
 
 -- the step has this event
@@ -93,8 +94,9 @@ abbrev pub verdict_of : Bool → Verdict
 verdict_of true = Certain
 verdict_of false = Excluded
 
--- The entries that were put show the verdict, by what was left of the budget, and all axioms pose the question; each clause that was learnt was fresh.
+-- The entries that were put show the verdict, by what was left of the budget, and all axioms pose the question, whose assumptions each final entry negates; each clause that was learnt was fresh.
 pub record IsVerdictShown (net : Net) (log : Log) (n k e : ℕ) (first : List RunStep) (left_old left_new : ℕ) (old new : List BookEntry) (verdict : Verdict) : Type 0 where
   pub searching : IsSearching old new left_old left_new
   pub asked : IsQuestionAbout (axioms_of new) net log n k e first
+  pub finals : FinalsNegateAssumed asked.assumed searching.since
   pub found : IsVerdict (axioms_of new) (clauses_of new) old searching.since net log n k e left_old first verdict
