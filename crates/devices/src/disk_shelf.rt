@@ -1,5 +1,5 @@
 // The files of the disk as a shelf.
-ghost use Rattle.std.specs.Prelude.{◌≡◌, ◌+◌, ◌^◌, ◌<◌, ◌≤◌, [], length, None};
+ghost use Rattle.std.specs.Prelude.{◌≡◌, ◌+◌, ◌^◌, ◌<◌, ◌≤◌, [], length, take, None, OnOk, IfSome};
 
 use des_base::{LoadFault, Shelf};
 use std::fs;
@@ -48,11 +48,12 @@ impl<R: Files> Shelf for DiskShelf<'_, R> {
     }
 }
 
-// Appends bytes up to the end of the file, or until there are `limit + 1`.
+// Appends the bytes up to the end of the file, or until there are `limit + 1`. It gives what the reader has, where that is told.
 fn read_front<R: Read>(file: &mut R, limit: u64, into: &mut Vec<u8>) -> Result<(), LoadFault>
     requires small { limit < 2 ^ 63 }
     requires empty { into.old.items ≡ [] }
-    ensures { length into.new.items ≤ limit + 1 }
+    ensures few { length into.new.items ≤ limit + 1 }
+    ensures bytes { OnOk result (IfSome (R.remaining file.old) (λ rest. into.new.items ≡ take (limit + 1) rest)) }
 {
     let mut buf = [0u8; 4096];
     let most = limit as usize + 1;
@@ -63,7 +64,7 @@ fn read_front<R: Read>(file: &mut R, limit: u64, into: &mut Vec<u8>) -> Result<(
             Err(_) => return Err(LoadFault::Failed),
         };
         if count == 0 {
-            break;
+            return Ok(());
         }
         if into.extend_from_slice(&buf[..count]).is_err() {
             return Err(LoadFault::Memory);
