@@ -10,6 +10,7 @@ ghost use Rattle.std.specs.List.{AllByRecursion};
 ghost use Rattle.log_order.specs.Log.{AreKnown};
 ghost use Rattle.least_faults.specs.Parts.{BelongTo};
 
+use crate::loose::{are_loose, push_unpassed};
 use crate::parts::Parts;
 use crate::question::Question;
 use des_base::{CompId, EventId, Memory};
@@ -36,13 +37,15 @@ pub fn advise<R: Fn(u32) -> u64>(
     Ok(())
 }
 
-// That the alarms miss their deadlines, where these come before the last step: the last alarm of the log's order first.
+// That the alarms miss their deadlines, where these come before the last step: the last alarm of the log's order first. Then what is tried where all
+// are of one device and some in no order.
 pub fn missed_deadlines(question: Question<'_>, code: &LogCode) -> Result<Vec<Lit>, Memory>
     requires { length code.now.coded.log.alarms ≡ length question.log.now.alarms }
 {
     let mut order = Vec::new(question.alloc);
     question.log.order(&mut order)?;
-    let deadlines = deadlines(question, order.as_slice(), code.steps())?;
+    let devices = devices(question)?;
+    let deadlines = deadlines(question, devices.as_slice(), order.as_slice(), code.steps())?;
     let mut missed = Vec::new(question.alloc);
     for place in (0..order.len()).rev() {
         let alarm = order[place];
@@ -51,21 +54,29 @@ pub fn missed_deadlines(question: Question<'_>, code: &LogCode) -> Result<Vec<Li
             missed.push(code.undone(alarm, deadline))?;
         }
     }
+    if are_loose(devices.as_slice(), deadlines.as_slice()) {
+        push_unpassed(code, question.log.alarms(), &mut missed)?;
+    }
     Ok(missed)
 }
 
 // The deadline of each alarm, where all are done within so many steps. The order keeps all pairs.
-fn deadlines(question: Question<'_>, order: &[u32], steps: u32) -> Result<Vec<u32>, Memory>
-    requires { AllByRecursion (λ alarm. alarm < length question.log.now.alarms) order.now }
+fn deadlines(
+    question: Question<'_>,
+    devices: &[Vec<CompId>],
+    order: &[u32],
+    steps: u32,
+) -> Result<Vec<u32>, Memory>
+    requires devices { length devices.now ≡ length question.log.now.alarms }
+    requires order { AllByRecursion (λ alarm. alarm < length question.log.now.alarms) order.now }
     ensures { IfOk result (λ deadlines. length deadlines.items ≡ length question.entry.log.now.alarms) }
 {
     question.log.is_whole();
-    let devices = devices(question)?;
     let mut deadlines = vec![in question.alloc; steps; devices.len()]?;
     for place in (0..order.len()).rev() {
         hasten(
             question.log,
-            devices.as_slice(),
+            devices,
             order[place],
             deadlines.as_mut_slice(),
         );

@@ -18,6 +18,7 @@ mod building;
 mod deadlines;
 mod encode;
 mod laws;
+mod loose;
 mod parts;
 mod question;
 mod searching;

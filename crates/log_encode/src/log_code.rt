@@ -281,6 +281,20 @@ impl LogCode {
         Lit::new(self.done(alarm) + steps, false)
     }
 
+    /// That an alarm doesn't pass an event on in the step after so many: the event of the link of this number, if there are such a link and step.
+    pub fn unpassed(&self, alarm: u32, link: u32, step: u32) -> Option<Lit>
+        requires { alarm < length self.now.coded.log.alarms }
+    {
+        let alarm = &self.alarms[alarm as usize];
+        if link as usize >= alarm.takes.len() || step >= self.grid.steps {
+            return None;
+        }
+        Some(Lit {
+            var: self.vars_of(alarm).passed(link, step),
+            positive: false,
+        })
+    }
+
     // Whether the alarm is false.
     fn is_dropped(&self, alarm: &AlarmCode, assign: &Assignment) -> bool
         requires within { AreWithinLimit (variables_of self.now.coded.grid.steps alarm.now) }

@@ -1,0 +1,64 @@
+// What a search tries where all alarms are of one device and some of them in no order: step by step from the last one on, that no alarm passes on an event
+// that it may stand for.
+//
+// Such alarms may stand in many orders, and each is as good as another; a search by activity goes through them. Where the last steps are settled
+// first, what is learnt says which alarms are left to the steps before, whatever the order of those behind them. No contract says that it is good to
+// try this.
+ghost use Rattle.std.specs.Prelude.{◌<◌, ◌≤◌, length};
+
+use des_base::{CompId, Memory};
+use log_encode::LogCode;
+use prop_core::Lit;
+
+// No more literals are tried.
+const MOST: usize = 100_000;
+
+// Whether each alarm is surely on one device, and two of them have one deadline, so that these are in no order.
+pub fn are_loose(devices: &[Vec<CompId>], deadlines: &[u32]) -> bool {
+    have_one_device(devices) && has_one_twice(deadlines)
+}
+
+// Whether some component is one of each alarm's.
+fn have_one_device(devices: &[Vec<CompId>]) -> bool {
+    match devices.first() {
+        Some(own) => own
+            .iter()
+            .any(|comp| devices.iter().all(|others| others.contains(comp))),
+        None => false,
+    }
+}
+
+// Whether a number stands at two places.
+fn has_one_twice(numbers: &[u32]) -> bool {
+    for place in 0..numbers.len() {
+        if numbers[..place].contains(&numbers[place]) {
+            return true;
+        }
+    }
+    false
+}
+
+// Adds what is tried.
+pub fn push_unpassed(code: &LogCode, alarms: u32, tries: &mut Vec<Lit>) -> Result<(), Memory>
+    requires { alarms ≤ length code.now.coded.log.alarms }
+{
+    for step in (0..code.steps()).rev() {
+        for alarm in 0..alarms {
+            push_links(code, alarm, step, tries)?;
+        }
+    }
+    Ok(())
+}
+
+// Adds that an alarm passes no event on in a step, as long as there aren't too many.
+fn push_links(code: &LogCode, alarm: u32, step: u32, tries: &mut Vec<Lit>) -> Result<(), Memory>
+    requires { alarm < length code.now.coded.log.alarms }
+{
+    for link in 0..u32::MAX {
+        match code.unpassed(alarm, link, step) {
+            Some(lit) if tries.len() < MOST => tries.push(lit)?,
+            _ => break,
+        }
+    }
+    Ok(())
+}
