@@ -104,7 +104,8 @@ fn carry_out_rows<S: Sink>(
     carry_out_by_test(alloc, plan, &test, out, book)
 }
 
-// The same with a test that is given. What comes behind the variables of the steps is decided first.
+// The same with a test that is given. What comes behind the variables of the steps is decided first, then the events, and then the
+// states.
 fn carry_out_by_test<T: Fn(u32, u32) -> bool, S: Sink>(
     alloc: Global,
     plan: &Plan,
@@ -120,7 +121,10 @@ fn carry_out_by_test<T: Fn(u32, u32) -> bool, S: Sink>(
     ensures failures { RisesExactlyIf (IsErrOf result Broken.Put) (S.failures out.old) (S.failures out.new) }
 {
     let first = step_variables(alloc, &plan.net, plan.limits.steps, test)?;
-    let order = Order::new(alloc, |var: u32| u64::from(var >= first));
+    let events = first - plan.net.events() * plan.limits.steps;
+    let order = Order::new(alloc, |var: u32| {
+        u64::from(var >= events) + u64::from(var >= first)
+    });
     carry_out_by_order(alloc, plan, test, order, out, book)
 }
 

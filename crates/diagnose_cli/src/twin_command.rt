@@ -153,7 +153,8 @@ fn test(
     test_by(alloc, net, fault, limits, &apart, book)
 }
 
-// The same with a test of touching events that is given. What comes behind the variables of the steps of one run is decided first.
+// The same with a test of touching events that is given. What comes behind the variables of the steps of one run is decided first,
+// then the events of that run, and then its states.
 fn test_by<T: Fn(u32, u32) -> bool>(
     alloc: Global,
     net: &Network,
@@ -172,7 +173,10 @@ fn test_by<T: Fn(u32, u32) -> bool>(
     ensures left { LeavesTwins net.now fault limits.steps limits.after limits.budget book.new.entries }
 {
     let first = step_variables(alloc, net, limits.steps, apart)?;
-    let order = Order::new(alloc, |var: u32| u64::from(var >= first));
+    let events = first - net.events() * limits.steps;
+    let order = Order::new(alloc, |var: u32| {
+        u64::from(var >= events) + u64::from(var >= first)
+    });
     let solver = Solver::new(alloc, order);
     twin_test(
         alloc,

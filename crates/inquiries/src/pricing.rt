@@ -69,7 +69,8 @@ fn weigh_case(
     weigh_by_test(alloc, case, steps, &test, table, budget, book)
 }
 
-// The same with a test of touching events that is given. What comes behind the variables of the steps is decided first.
+// The same with a test of touching events that is given. What comes behind the variables of the steps is decided first, then the
+// events, and then the states.
 fn weigh_by_test<T: Fn(u32, u32) -> bool>(
     alloc: Global,
     case: &Case,
@@ -87,7 +88,10 @@ fn weigh_by_test<T: Fn(u32, u32) -> bool>(
     ensures { IfOk result (IsPricedBy case.now.net (cost_at table.now) case.now.log steps budget book.new.entries) }
 {
     let first = step_variables(alloc, &case.net, steps, test)?;
-    let order = Order::new(alloc, |var: u32| u64::from(var >= first));
+    let events = first - case.net.events() * steps;
+    let order = Order::new(alloc, |var: u32| {
+        u64::from(var >= events) + u64::from(var >= first)
+    });
     let solver = Solver::new(alloc, order);
     weigh_by_solver(alloc, case, steps, test, solver, table, budget, book)
 }

@@ -72,8 +72,8 @@ pub fn pose<Q: Inquiry>(
     pose_by_test(alloc, case, steps, &test, inquiry, book)
 }
 
-// The same with a test that is given. What comes behind the variables of the steps is decided first: those of the log and of
-// the counter.
+// The same with a test that is given. What comes behind the variables of the steps is decided first, those of the log and of the
+// counter; then the events, which are the last of the steps, and then the states.
 fn pose_by_test<T: Fn(u32, u32) -> bool, Q: Inquiry>(
     alloc: Global,
     case: &Case,
@@ -90,7 +90,10 @@ fn pose_by_test<T: Fn(u32, u32) -> bool, Q: Inquiry>(
     ensures left { LeavesQuestion case.now.net case.now.log steps (MayLearn (Q.budget inquiry.now)) book.new.entries }
 {
     let first = step_variables(alloc, &case.net, steps, test)?;
-    let order = Order::new(alloc, |var: u32| u64::from(var >= first));
+    let events = first - case.net.events() * steps;
+    let order = Order::new(alloc, |var: u32| {
+        u64::from(var >= events) + u64::from(var >= first)
+    });
     let solver = Solver::new(alloc, order);
     pose_by_solver(alloc, case, steps, test, solver, inquiry, book)
 }

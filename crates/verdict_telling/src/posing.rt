@@ -44,7 +44,8 @@ pub fn tell_case<S: Sink>(
     tell_by_test(alloc, case, steps, budget, &test, book, out)
 }
 
-// The same with a test that is given. What comes behind the variables of the steps is decided first.
+// The same with a test that is given. What comes behind the variables of the steps is decided first, then the events, and then the
+// states.
 fn tell_by_test<T: Fn(u32, u32) -> bool, S: Sink>(
     alloc: Global,
     case: &Case,
@@ -65,7 +66,10 @@ fn tell_by_test<T: Fn(u32, u32) -> bool, S: Sink>(
     let Ok(first) = step_variables(alloc, &case.net, steps, test) else {
         return Err(Broken::Memory);
     };
-    let order = Order::new(alloc, |var: u32| u64::from(var >= first));
+    let events = first - case.net.events() * steps;
+    let order = Order::new(alloc, |var: u32| {
+        u64::from(var >= events) + u64::from(var >= first)
+    });
     let solver = Solver::new(alloc, order);
     tell_by_solver(alloc, case, steps, budget, test, solver, book, out)
 }
