@@ -6,3 +6,4 @@ pub mod BookTruth
 mod Helds
 mod Marking
 mod Vectors
+pub mod Fronts

@@ -5,3 +5,4 @@ pub mod Following
 pub mod Fresh
 pub mod Checking
 pub mod HeldClauses
+pub mod Fronts

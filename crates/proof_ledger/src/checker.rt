@@ -43,7 +43,8 @@ pub fn check(alloc: Global, axioms: &Clauses, steps: &[ProofStep]) -> Result<Che
     ensures checked { IfOk result (λ checked. checked ≡ check_proof axioms.now.clauses steps.now) }
     ensures sound { IfOk result (λ checked. checked ≡ Checked.Verified → IsUnsatisfiable axioms.now.clauses) }
 {
-    let mut held = HeldClauses::of_axioms(alloc, axioms)?;
+    let room = room(axioms.len(), steps);
+    let mut held = HeldClauses::of_axioms(alloc, axioms, room)?;
     let mut truths = Truths::new(alloc);
     for step in steps {
         match take_step(&mut truths, &mut held, step)? {
@@ -52,6 +53,21 @@ pub fn check(alloc: Global, axioms: &Clauses, steps: &[ProofStep]) -> Result<Che
         }
     }
     Ok(Checked::Rejected { line: 0, kind: 4 })
+}
+
+// For how many numbers from 0 on it is worth to have a list: up to the greatest number of a step, if that is no more than four for each step
+// beyond the axioms. Whatever it is, a proof comes to the same.
+fn room(axioms: u64, steps: &[ProofStep]) -> usize {
+    let most = axioms.saturating_add((steps.len() as u64).saturating_mul(4));
+    let mut greatest = axioms;
+    for step in steps {
+        if let ProofStep::Add { id, .. } = step {
+            if *id <= most {
+                greatest = greatest.max(*id);
+            }
+        }
+    }
+    greatest.saturating_add(1) as usize
 }
 
 // Takes a step, and says what the proof comes to where the step ends it.

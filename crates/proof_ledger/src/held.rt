@@ -8,19 +8,23 @@ use crate::follow::Holds;
 use des_base::Memory;
 use prop_core::{ClauseId, Clauses, Lit};
 use std::alloc::Global;
-use std::collections::HashMap;
+use std::collections::BTreeMap;
 
-// Clauses by numbers that need not follow one another.
+// Clauses by numbers that need not follow one another. Those of small numbers stand in a list, at the place of their number.
 #[derive(Drop)]
 pub struct HeldClauses<'a> {
-    pub by_number: HashMap<u64, &'a [Lit]>,
+    pub near: Vec<Option<&'a [Lit]>>,
+    pub far: BTreeMap<u64, &'a [Lit]>,
 }
 
 impl<'a> Holds for HeldClauses<'a> {
     ghost held = { held_by };
 
     fn find(&self, id: ClauseId) -> Option<&[Lit]> {
-        match self.by_number.get(&id.0) {
+        if id.0 < self.near.len() as u64 {
+            return self.near[id.0 as usize];
+        }
+        match self.far.get(&id.0) {
             Some(clause) => Some(*clause),
             None => None,
         }
@@ -28,18 +32,24 @@ impl<'a> Holds for HeldClauses<'a> {
 }
 
 impl<'a> HeldClauses<'a> {
-    pub fn new(alloc: Global) -> HeldClauses<'a>
-        ensures { (number : ℕ) → held_by result number ≡ None }
+    // None, with a list for the numbers below `room`.
+    pub fn new(alloc: Global, room: usize) -> Result<HeldClauses<'a>, Memory>
+        ensures { IfOk result (λ held. (number : ℕ) → held_by held number ≡ None) }
     {
-        HeldClauses {
-            by_number: HashMap::new(alloc),
-        }
+        Ok(HeldClauses {
+            near: vec![in alloc; None; room]?,
+            far: BTreeMap::new(alloc),
+        })
     }
 
     pub fn add(&mut self, number: u64, clause: &'a [Lit]) -> Result<(), Memory>
         ensures { OnOk result ((asked : ℕ) → held_by self.new asked ≡ with_clause (held_by self.old) number clause.now asked) }
     {
-        self.by_number.insert(number, clause)?;
+        if number < self.near.len() as u64 {
+            self.near[number as usize] = Some(clause);
+            return Ok(());
+        }
+        self.far.insert(number, clause)?;
         Ok(())
     }
 
@@ -54,14 +64,22 @@ impl<'a> HeldClauses<'a> {
     fn remove(&mut self, number: u64)
         ensures { (asked : ℕ) → held_by self.new asked ≡ without (held_by self.old) (number ∷ []) asked }
     {
-        let _ = self.by_number.remove(&number);
+        if number < self.near.len() as u64 {
+            self.near[number as usize] = None;
+            return;
+        }
+        let _ = self.far.remove(&number);
     }
 
-    // Holds the axioms by their numbers from 1.
-    pub fn of_axioms(alloc: Global, axioms: &'a Clauses) -> Result<HeldClauses<'a>, Memory>
+    // Holds the axioms by their numbers from 1, with a list for the numbers below `room`.
+    pub fn of_axioms(
+        alloc: Global,
+        axioms: &'a Clauses,
+        room: usize,
+    ) -> Result<HeldClauses<'a>, Memory>
         ensures { IfOk result (λ held. (asked : ℕ) → held_by held asked ≡ clause_numbered axioms.now.clauses asked) }
     {
-        let mut held = HeldClauses::new(alloc);
+        let mut held = HeldClauses::new(alloc, room)?;
         for before in 0..axioms.len() {
             let number = before + 1;
             held.add(number, axioms.clause(ClauseId(number)))?;

@@ -1,10 +1,10 @@
 // The truths of literals while hints are followed.
-ghost use Rattle.std.specs.Prelude.{◌≡◌, ℕ, ◌++◌, ◌∷◌, [], map, filter, find, not, ◌||◌, Some, IfOk, OnOk, OnErr};
+ghost use Rattle.std.specs.Prelude.{◌≡◌, ℕ, ◌++◌, ◌∷◌, [], map, IfOk, OnOk, OnErr};
 ghost use Rattle.std.specs.Option.{option_copied};
-ghost use Rattle.std.specs.List.{list_any, list_all};
-ghost use Rattle.prop_core.specs.Clauses.{negation, same_literal, is_true, is_false, is_open};
-ghost use Rattle.prop_core.specs.Derivation.{standing, open_standing, after_hint};
+ghost use Rattle.prop_core.specs.Clauses.{negation, is_true};
+ghost use Rattle.prop_core.specs.Derivation.{standing, after_hint};
 ghost use Rattle.proof_ledger.specs.Following.{standing_of, progress_of};
+ghost use Rattle.proof_ledger.specs.Fronts.{front_with, front_standing};
 
 use crate::marks::{mark, marked, place, unmark_all};
 use des_base::Memory;
@@ -41,6 +41,53 @@ pub enum Stands {
     Wide,
 }
 
+// What is known of the first literals of a clause: whether all are false, whether one is true, which is the first that is neither, and whether
+// another one is neither.
+#[derive(Clone, Copy)]
+pub struct Front {
+    pub all_false: bool,
+    pub any_true: bool,
+    pub first: Option<Lit>,
+    pub wide: bool,
+}
+
+impl Front {
+    // The same with one more literal.
+    fn with(self, lit: Lit, is_false: bool, is_true: bool) -> Front
+        ensures { result ≡ front_with self lit is_false is_true }
+    {
+        let mut front = self;
+        front.all_false = self.all_false && is_false;
+        front.any_true = self.any_true || is_true;
+        if !is_false && !is_true {
+            match self.first {
+                None => {
+                    front.first = Some(lit);
+                    front.wide = false;
+                }
+                Some(first) => front.wide = self.wide || first != lit,
+            }
+        }
+        front
+    }
+
+    // How a clause stands of which this is known.
+    fn stands(self) -> Stands
+        ensures { standing_of result ≡ front_standing self }
+    {
+        if self.all_false {
+            return Stands::Falsified;
+        }
+        if self.any_true {
+            return Stands::Satisfied;
+        }
+        match self.first {
+            Some(lit) if !self.wide => Stands::Unit(lit),
+            _ => Stands::Wide,
+        }
+    }
+}
+
 // What a hint leads to. A fault has its kind.
 #[derive(Clone, Copy)]
 pub enum Step {
@@ -63,12 +110,6 @@ impl Truths {
         ensures { result ≡ is_true self.now lit }
     {
         marked(&self.marks, lit)
-    }
-
-    fn is_open(&self, lit: Lit) -> bool
-        ensures { result ≡ is_open self.now lit }
-    {
-        !self.has(lit) && !self.has(lit.negated())
     }
 
     fn take(&mut self, lit: Lit) -> Result<(), Memory>
@@ -99,59 +140,20 @@ impl Truths {
         self.taken.clear();
     }
 
-    fn all_false(&self, clause: &[Lit]) -> bool
-        ensures { result ≡ list_all (is_false self.now) clause.now }
-    {
-        clause.iter().all(|lit| self.has(lit.negated()))
-    }
-
-    fn any_true(&self, clause: &[Lit]) -> bool
-        ensures { result ≡ list_any (is_true self.now) clause.now }
-    {
-        clause.iter().any(|lit| self.has(*lit))
-    }
-
-    fn first_open(&self, clause: &[Lit]) -> Option<Lit>
-        ensures { result ≡ find (is_open self.now) clause.now }
-    {
-        clause.iter().copied().find(|lit| self.is_open(*lit))
-    }
-
-    fn no_other_open(&self, clause: &[Lit], first: Lit) -> bool
-        ensures { result ≡ list_all (λ l. not (is_open self.now l) || same_literal first l) clause.now }
-    {
-        clause
-            .iter()
-            .all(|lit| !self.is_open(*lit) || first == *lit)
-    }
-
-    // How a clause stands of whose literals none is true and not all are false.
-    #[tactic(auto, using(prop_core::proofs::Standings::open_standings))]
-    fn open_standing(&self, clause: &[Lit]) -> Stands
-        ensures { standing_of result ≡ open_standing (filter (is_open self.now) clause.now) }
-    {
-        match self.first_open(clause) {
-            None => Stands::Wide,
-            Some(first) => {
-                if self.no_other_open(clause, first) {
-                    Stands::Unit(first)
-                } else {
-                    Stands::Wide
-                }
-            }
-        }
-    }
-
+    // The clause's literals are looked at once, from the first on.
     fn standing(&self, clause: &[Lit]) -> Stands
         ensures { standing_of result ≡ standing self.now clause.now }
     {
-        if self.all_false(clause) {
-            return Stands::Falsified;
+        let mut front = Front {
+            all_false: true,
+            any_true: false,
+            first: None,
+            wide: false,
+        };
+        for lit in clause {
+            front = front.with(*lit, self.has(lit.negated()), self.has(*lit));
         }
-        if self.any_true(clause) {
-            return Stands::Satisfied;
-        }
-        self.open_standing(clause)
+        front.stands()
     }
 
     // Follows a hint, given the clause that it names.
