@@ -8,7 +8,7 @@ ghost use Rattle.proof_text.specs.LratText.{lrat_line_code, lrat_line, proof_ste
 
 use crate::fault::{TextRefusal, fault_at};
 use crate::line_faults::lrat_line_code;
-use crate::lrat_line::read_step;
+use crate::lrat_line::{Scratch, read_step};
 use crate::proof::Proof;
 use des_base::{Line, Lines, VAR_LIMIT};
 use proof_ledger::ProofStep;
@@ -32,8 +32,12 @@ pub fn read_lrat(alloc: Global, bytes: &[u8], vars: u32, clauses: u64) -> Result
     let mut lines = Lines::new(bytes, b'c');
     let mut proof = Proof::new(alloc);
     let mut last = clauses;
+    let mut scratch = Scratch {
+        ids: Vec::new(alloc),
+        clause: Vec::new(alloc),
+    };
     while let Some(line) = lines.next_line() {
-        let step = read_line(alloc, line, vars, last)?;
+        let step = read_line(alloc, line, vars, last, &mut scratch)?;
         last = last_after(&step, last);
         proof.push(step)?;
     }
@@ -41,13 +45,19 @@ pub fn read_lrat(alloc: Global, bytes: &[u8], vars: u32, clauses: u64) -> Result
 }
 
 // The step of a line, or its fault. An addition's number has to be greater than `last`.
-fn read_line(alloc: Global, line: Line<'_>, vars: u32, last: u64) -> Result<ProofStep, TextRefusal>
+fn read_line(
+    alloc: Global,
+    line: Line<'_>,
+    vars: u32,
+    last: u64,
+    scratch: &mut Scratch,
+) -> Result<ProofStep, TextRefusal>
     requires { vars ≤ VAR_LIMIT }
     ensures step { IfOk result (λ step. step ≡ proof_step_of line.entry.number (lrat_line (tokens_of line.entry.text.now))) }
     ensures well { OnOk result (lrat_line_code vars last (lrat_line (tokens_of line.entry.text.now)) ≡ None) }
     ensures refused { IfErr result (λ refusal. (later : Option TextFault) → IsTextDue (text_fault_or line.entry.number (lrat_line_code vars last (lrat_line (tokens_of line.entry.text.now))) later) refusal) }
 {
-    match read_step(alloc, line, vars, last)? {
+    match read_step(alloc, line, vars, last, scratch)? {
         Some(step) => Ok(step),
         None => Err(fault_at(line.number, lrat_line_code(line, vars, last).unwrap())),
     }
