@@ -7,4 +7,5 @@ pub mod KeptLemmas
 pub mod AlarmLemmas
 mod Meaning
 pub mod LeastOrder
+mod WaitingLemmas
 mod Vectors

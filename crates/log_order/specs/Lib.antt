@@ -4,3 +4,4 @@ pub mod Adding
 pub mod Precedence
 pub mod View
 pub mod Order
+pub mod Waiting

@@ -210,7 +210,11 @@ fn moved(alloc: Global, order: &[u32], marks: &[bool]) -> Result<Vec<u32>, Memor
 }
 
 // Adds a follower of one of the numbers.
-fn push_follower(followers: &mut Vec<ListOf<u32>>, first: u32, second: u32) -> Result<(), Memory>
+pub fn push_follower(
+    followers: &mut Vec<ListOf<u32>>,
+    first: u32,
+    second: u32,
+) -> Result<(), Memory>
     requires { first < length followers.old.items }
     ensures ok { OnOk result (followers.new.items ≡ with_follower followers.old.items first second) }
     ensures err { OnErr result (followers.new.items ≡ followers.old.items) }
