@@ -32,10 +32,6 @@ use Rattle.cost_least.specs.Pricing.{ExplainsAt, named_weights, weight_named, Is
 
 -- ---- truth values and lists
 
-nothing_more : {X : Type 0} (xs : List X) → xs ++ [] ≡ xs
-nothing_more [] = refl
-nothing_more (x ∷ xs) = ap (λ ys. x ∷ ys) (nothing_more xs)
-
 -- ---- weights by variable and by name
 
 input_is : (names : List (ℕ × Meaning)) (assignment : ℕ → Bool) (value : Meaning → Bool) → Match names assignment value → (x : Weighted) (named : Meaning × ℕ) → IsInput names x named → literal_true assignment x.input ≡ value named.0

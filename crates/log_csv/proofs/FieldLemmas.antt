@@ -19,12 +19,6 @@ field_at-none [] (suc i) h = refl
 field_at-none (f ∷ fs) zero h = cc
 field_at-none (f ∷ fs) (suc i) h = field_at-none fs i h
 
-pub drop-past : (fields : List (List ℕ)) (i : ℕ) → length fields ≤ i → drop i fields ≡ []
-drop-past [] zero h = refl
-drop-past [] (suc i) h = refl
-drop-past (f ∷ fs) zero h = absurd (omega arith)
-drop-past (f ∷ fs) (suc i) h = drop-past fs i (omega arith)
-
 -- ---- the fields from a place on
 
 pub are_empty-at : (fields : List (List ℕ)) (i : ℕ) (field : List ℕ) → Some field ≡ field_at fields i → are_empty (drop i fields) ≡ (is_empty_field field && are_empty (drop (i + 1) fields))

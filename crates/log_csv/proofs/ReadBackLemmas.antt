@@ -48,12 +48,6 @@ all_once labels h = once_more [] labels h
 
 -- ---- ids and their places
 
--- the id at a place, by recursion
-id_at : (alarms : List Alarm) (k : ℕ) → k < length alarms → place_of (id_of alarms k) (names_of alarms) ≡ None → ⊥
-id_at [] k l h = omega arith
-id_at (a ∷ as') zero l h = let b = (none_parts (bytes_eq a.name a.name) (place_of a.name (names_of as')) h).0 in let c = text_itself a.name in cc
-id_at (a ∷ as') (suc k) l h = id_at as' k (omega arith) (none_parts (bytes_eq (id_of as' k) a.name) (place_of (id_of as' k) (names_of as')) h).1
-
 other_id : (x : List ℕ) (alarms : List Alarm) (k : ℕ) → k < length alarms → place_of x (names_of alarms) ≡ None → bytes_eq (id_of alarms k) x ≡ false
 other_id x [] k l h = absurd (omega arith)
 other_id x (a ∷ as') zero l h = text_turned x a.name (none_parts (bytes_eq x a.name) (place_of x (names_of as')) h).0

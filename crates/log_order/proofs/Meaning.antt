@@ -7,12 +7,6 @@ use Rattle.log_order.specs.Meanings.{AlarmMeaning, alarms_with}
 use Rattle.log_order.specs.View.{log_view, IsAlarmLog}
 use Rattle.log_order.specs.declared.alarm_log.AlarmLog.TheInside.{Inside}
 
-pub alarms_with-names : (ids : List (List ℕ)) (meanings : List AlarmMeaning) → length meanings ≡ length ids → names_of (alarms_with ids meanings) ≡ ids
-alarms_with-names [] [] h = refl
-alarms_with-names [] (m ∷ ms) h = cc
-alarms_with-names (x ∷ xs) [] h = cc
-alarms_with-names (x ∷ xs) (m ∷ ms) h = ap (λ l. x ∷ l) (alarms_with-names xs ms (omega arith))
-
 pub alarms_with-length : (ids : List (List ℕ)) (meanings : List AlarmMeaning) → length meanings ≡ length ids → length (alarms_with ids meanings) ≡ length ids
 alarms_with-length [] [] h = refl
 alarms_with-length [] (m ∷ ms) h = cc

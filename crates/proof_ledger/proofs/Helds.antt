@@ -38,21 +38,3 @@ numbered_more cs k c (suc j) here = by (suc j == k + 1) refl
     by false e =
         let other : j ≡ k → ⊥ = λ s. let h = eq-eqb (suc j) (k + 1) (omega arith) in cc in
         rw (e, add-one) (numbered-suc (take k cs) j ∙ get-take-other cs k j other ∙ sym (numbered-suc (take (suc k) cs) j))
-
-any-take : (p : ℕ → Bool) (xs : List ℕ) (i : ℕ) → i < length xs → list_any p (take (suc i) xs) ≡ list_any p (take i xs) || p (get_or xs i 0)
-any-take p [] i h = absurd (omega arith)
-any-take p (x ∷ []) zero h = by (p x)
-  where
-    by : (b : Bool) → b || false ≡ false || b
-    by true = refl
-    by false = refl
-any-take p (x ∷ y ∷ xs) zero h = by (p x)
-  where
-    by : (b : Bool) → b || false ≡ false || b
-    by true = refl
-    by false = refl
-any-take p (x ∷ xs) (suc i) h = by (p x) (any-take p xs i (omega arith))
-  where
-    by : (b : Bool) → list_any p (take (suc i) xs) ≡ list_any p (take i xs) || p (get_or xs i 0) → b || list_any p (take (suc i) xs) ≡ (b || list_any p (take i xs)) || p (get_or xs i 0)
-    by true e = refl
-    by false e = e

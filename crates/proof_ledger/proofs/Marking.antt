@@ -33,19 +33,6 @@ same_place a b = by (literal_number a == literal_number b) refl
             let yes = eq-eqb (literal_number a) (literal_number b) places in
             cc
 
-any-append : (l : Lit) (taken : List Lit) (x : Lit) → is_true (taken ++ x ∷ []) l ≡ cond (same_literal l x) true (is_true taken l)
-any-append l [] x = by (same_literal l x)
-  where
-    by : (b : Bool) → b || false ≡ cond b true false
-    by true = refl
-    by false = refl
-any-append l (t ∷ taken) x = by (same_literal l t) (same_literal l x) (any-append l taken x)
-  where
-    by : (a b : Bool) → is_true (taken ++ x ∷ []) l ≡ cond b true (is_true taken l) → a || is_true (taken ++ x ∷ []) l ≡ cond b true (a || is_true taken l)
-    by true true h = refl
-    by true false h = refl
-    by false b h = h
-
 -- what is still marked is among those that follow
 abbrev pub MarkedAmong : List Bool → List Lit → Type 0
 MarkedAmong marks rest = (l : Lit) → get_or marks (literal_number l) false ≡ true → is_true rest l ≡ true

@@ -146,17 +146,6 @@ listed_are_written names (named ∷ list) (c ∷ clauses) once h =
 pub listed_are_equal : ListedAreEqual
 listed_are_equal names list clauses others once first second = listed_are_written names list clauses once first ∙ sym (listed_are_written names list others once second)
 
--- further names change nothing
-pub listed_more : (names more : List (ℕ × Meaning)) (list : Listing) (clauses : List Clause) → IsListed names list clauses → IsListed (names ++ more) list clauses
-listed_more names more [] [] h = refl
-listed_more names more [] (c ∷ clauses) h = cc
-listed_more names more (named ∷ list) [] h = cc
-listed_more names more (named ∷ list) (c ∷ clauses) h =
-    let x = head_same (named_clause names c) (Some named) (map (named_clause names) clauses) (map (λ m. Some m) list) h in
-    let here : named_clause (names ++ more) c ≡ Some named = clause_more names more c named x.0 in
-    let rest = listed_more names more list clauses x.1 in
-    λ i. here i ∷ rest i
-
 -- ---- what a listing says as a set
 
 pub listed_are_code : ListedAreCode

@@ -27,17 +27,6 @@ literal_more names more l m h = by (meaning_of names l.var) refl h
     by None e is = cc
     by (Some meaning) e is = rw (found_more names more l.var meaning e) is
 
-pub clause_more : (names more : List (ℕ × Meaning)) (clause : Clause) (read : List NamedLiteral) → named_clause names clause ≡ Some read → named_clause (names ++ more) clause ≡ Some read
-clause_more names more [] read h = h
-clause_more names more (l ∷ clause) read h = by (named_literal names l) refl (named_clause names clause) refl (clause_more names more clause) h
-  where
-    by : (o : Option NamedLiteral) → named_literal names l ≡ o → (p : Option (List NamedLiteral)) → named_clause names clause ≡ p →
-        ((rest : List NamedLiteral) → named_clause names clause ≡ Some rest → named_clause (names ++ more) clause ≡ Some rest) → with_literal o p ≡ Some read →
-        with_literal (named_literal (names ++ more) l) (named_clause (names ++ more) clause) ≡ Some read
-    by None e p f later is = cc
-    by (Some m) e None f later is = cc
-    by (Some m) e (Some rest) f later is = rw (literal_more names more l m e, later rest f) is
-
 -- ---- truth
 
 pub sign_is : (a b : Bool) → beq a b ≡ same_sign b a

@@ -13,14 +13,6 @@ cut_le start last (end ∷ ends) c = omega (arith, c.0, cut_le end last ends c.1
 range_kept : {X : Type 0} (items more : List X) (start end : ℕ) → start ≤ end → end ≤ length items → slice_range (items ++ more) start end ≡ slice_range items start end
 range_kept items more start end a b = grind (arith, common_steps)
 
--- the lists stay where items are added behind them
-pieces_kept : {X : Type 0} (items more : List X) (start last : ℕ) (ends : List ℕ) → EndsAscend start last ends → last ≤ length items → pieces_by_ends (items ++ more) start ends ≡ pieces_by_ends items start ends
-pieces_kept items more start last [] c h = refl
-pieces_kept items more start last (end ∷ ends) c h =
-    let a = range_kept items more start end c.0 (omega (arith, cut_le end last ends c.1, h)) in
-    let b = pieces_kept items more end last ends c.1 h in
-    cc
-
 range_last : {X : Type 0} (items more : List X) → slice_range (items ++ more) (length items) (length items + length more) ≡ more
 range_last items more = grind (arith, common_steps)
 

@@ -133,12 +133,6 @@ IsQueue-take ranks waiting cs rest rank var q p o =
           omega arith;
     }
 
-pub taken_known : (ranks : List ℕ) (waiting : List Bool) (cs rest : List Candidate) (rank var : ℕ) → IsQueue ranks waiting cs → IsPermutation cs (candidate rank var ∷ rest) → var < length waiting
-taken_known ranks waiting cs rest rank var q p =
-    let all = All-permutation (IsCandidate ranks) cs (candidate rank var ∷ rest) p q.ranked in
-    let head = All-head (IsCandidate ranks) (candidate rank var) rest all in
-    let a = q.same in let b = head.known in omega arith
-
 -- what the order says of two candidates
 not_before : (rank var other_rank other : ℕ) → is_lt (candidate_order (candidate rank var) (candidate other_rank other)) ≡ false → ComesFirst var rank other other_rank
 not_before rank var other_rank other h = by (ltb rank other_rank) refl (eqb rank other_rank) refl (ltb other var) refl

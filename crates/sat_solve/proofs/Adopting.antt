@@ -95,23 +95,6 @@ front_viewed {R} s v all clauses e f same =
     let g = subst (λ (x : SolverState R). IsFront x.adopted all) (sym e) f in
     subst (λ (cs : List Clause). take (length v.adopted) cs ≡ v.adopted) (sym same) g
 
--- when all are attached
-pub rest_adopted : (waiting : List Bool) (start t : TrailState) (values : List Bool) (vars spare left : ℕ) (all : List Clause) → AreAtRest waiting start values vars spare → HasAttached start t all → AllByRecursion (HasValues vars) all → left + length all ≡ spare + length start.clauses → AreAtRest waiting t values vars left
-rest_adopted waiting start t values vars spare left all r a b h = record {
-  level = ap level_of a.reasons ∙ r.level;
-  serving = record {
-    joined = rw a.clauses a.joined;
-    below = rw a.clauses b;
-    literals_below = rw a.literals r.serving.literals_below;
-    enough = rw a.vars r.serving.enough;
-    room = let s = a.spare in let q = r.serving.room in omega arith;
-  };
-  limit = r.limit;
-  variables = r.variables;
-  waiting_open = rw a.literals r.waiting_open;
-  values_kept = r.values_kept;
-}
-
 -- a book that has one axiom more
 pub record HasOneMore (old : List Clause) (new : List BookEntry) (vars : ℕ) : Type 0 where
   pub grown : IsFront old (clauses_of new)

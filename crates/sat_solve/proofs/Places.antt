@@ -245,12 +245,6 @@ held_more waiting var k off =
     let z : one_if (get_or waiting var false) ≡ 0 = ap one_if off in
     omega arith
 
-pub held_less : (waiting : List Bool) (var : ℕ) → var < length waiting → waits waiting var ≡ true → held_of (slice_set waiting var false) + 1 ≡ held_of waiting
-held_less waiting var k on =
-    let s : held_of (set waiting var false) + one_if (get_or waiting var false) ≡ held_of waiting + 0 = sum_by-set (λ b. cond b 1 0) waiting var false false k in
-    let z : one_if (get_or waiting var false) ≡ 1 = ap one_if on in
-    omega arith
-
 -- no more wait than are known
 pub held_known : (waiting : List Bool) → held_of waiting ≤ length waiting
 held_known waiting = count_by-le-length (λ b. b) waiting

@@ -9,10 +9,6 @@ use Rattle.telling.specs.declared.each.Broken.TheVariants.{Put}
 pub none_failed : (P : Type 0) (before now : Option ℕ) → (P → ⊥) → now ≡ before → RisesExactlyIf P before now
 none_failed P before now never same = record { rises = λ p. absurd (never p); stays = λ other. same }
 
--- one failed
-pub one_failed : (P : Type 0) (before now : Option ℕ) → P → now ≡ option_map raised before → RisesExactlyIf P before now
-one_failed P before now is one = record { rises = λ p. one; stays = λ other. absurd (other is) }
-
 -- said in other words
 pub fails_alike : (P Q : Type 0) (before now : Option ℕ) → (P → Q) → (Q → P) → RisesExactlyIf P before now → RisesExactlyIf Q before now
 fails_alike P Q before now there back h = record { rises = λ q. h.rises (back q); stays = λ other. h.stays (λ p. other (there p)) }
