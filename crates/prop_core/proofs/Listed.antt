@@ -12,7 +12,7 @@ use Rattle.prop_core.specs.VariableNames.{Meaning, NamedLiteral, named_clause, n
 use Rattle.prop_core.specs.NamedClauses.{IsThere, variable_of}
 use Rattle.prop_core.specs.Listings.{Listing, IsListed, One, Both, EachOf, Each, When, Appends, literal_by, written_by, ListedAreWritten, ListedAreEqual, ListedAreCode}
 use Rattle.prop_core.proofs.FamilyLemmas.{reads_whole}
-use Rattle.prop_core.proofs.NameLemmas.{variable_is, clause_more}
+use Rattle.prop_core.proofs.NameLemmas.{variable_is}
 use Rattle.des_base.proofs.NumbersBelow.{range_more}
 
 head_same : {X : Type 0} (x y : X) (xs ys : List X) → x ∷ xs ≡ y ∷ ys → (x ≡ y) × (xs ≡ ys)
