@@ -7,7 +7,7 @@ use Rattle.least_faults.proofs.Roomless.{answered_roomless, columns_roomless}
 use Rattle.least_faults.specs.Answers.{IsAnswered}
 use Rattle.least_faults.specs.Growing.{AddsAxioms, HasGrownWithin, KeepsQuestion}
 use Rattle.least_faults.specs.Parts.{IsBuilt, built_of, meanings_of_parts}
-use Rattle.least_faults.specs.declared.answer.Found.{Found}
+use Rattle.answers.specs.declared.found.Found.{Found}
 use Rattle.log_order.specs.Log.{no_log}
 use Rattle.proof_ledger.specs.Book.{BookEntry, axiomatic, axioms_of, IsValidBook}
 use Rattle.run_decode.specs.QuestionAxioms.{BuiltQuestion, question_built, roomless}

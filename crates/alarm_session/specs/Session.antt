@@ -13,7 +13,7 @@ use Rattle.least_faults.specs.Columns.{columns_built}
 use Rattle.least_faults.specs.Evidence.{IsPosed}
 use Rattle.least_faults.specs.Growing.{HasGrownWithin}
 use Rattle.least_faults.specs.Parts.{AreParts, AreReady, BelongTo, IsWithinLimits, built_of}
-use Rattle.least_faults.specs.declared.answer.Found.{Found}
+use Rattle.answers.specs.declared.found.Found.{Found}
 use Rattle.log_clauses.specs.Additions.{Addition, with_addition}
 use Rattle.log_encode.specs.Drafted.{IsDraftOf}
 use Rattle.log_order.specs.Log.{Log, no_log}

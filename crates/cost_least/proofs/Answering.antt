@@ -41,7 +41,7 @@ use Rattle.cost_least.specs.Asking.{HasAskedCost, IsTrueCostAnswer}
 use Rattle.cost_least.specs.Pricing.{PosesCosts, cost_limit}
 use Rattle.cost_least.specs.Searching.{IsSolvedUnder, IsTotalOf, MayBound, asked_of}
 use Rattle.cost_least.specs.Weighed.{AreWeighed, AreWeighedParts, log_guards, assumed_at}
-use Rattle.cost_least.specs.declared.answer.Priced.{Priced}
+use Rattle.answers.specs.declared.cheap.Priced.{Priced}
 use Rattle.cost_least.specs.declared.asking.Asked.{Asked}
 use Rattle.cost_least.specs.declared.asking.Asked.TheVariants.{Explained, Refuted, Spent}
 use Rattle.prop_core.proofs.Literals.{wider}

@@ -27,7 +27,7 @@ use Rattle.cost_least.specs.Costs.{total}
 use Rattle.cost_least.specs.Pricing.{ExplainsAt, PosesCosts}
 use Rattle.cost_least.specs.Searching.{MayBound, CostsAreRuledOut}
 use Rattle.cost_least.specs.Weighed.{AreWeighedParts, log_guards, assumed_at}
-use Rattle.cost_least.specs.declared.answer.Priced.{Priced}
+use Rattle.answers.specs.declared.cheap.Priced.{Priced}
 use Rattle.prop_core.proofs.Premises.{negated}
 
 -- without a bound, and within one that may be asked for

@@ -27,9 +27,9 @@ use Rattle.cost_least.specs.Answers.{CostAsked, FinalsNegateCosts, NegatesCost, 
 use Rattle.cost_least.specs.Asking.{EndsByFinal, HasAskedCost}
 use Rattle.cost_least.specs.Searching.{HasFoundCost, asked_of}
 use Rattle.cost_least.specs.Weighed.{AreWeighedParts, KeepsCode, assumed_at}
-use Rattle.cost_least.specs.declared.answer.Cheap.{Cheap}
-use Rattle.cost_least.specs.declared.answer.Cheap.TheVariants.{Found, Absent, Dear, Undecided}
-use Rattle.cost_least.specs.declared.answer.Priced.{Priced}
+use Rattle.answers.specs.declared.cheap.Cheap.{Cheap}
+use Rattle.answers.specs.declared.cheap.Cheap.TheVariants.{Found, Absent, Dear, Undecided}
+use Rattle.answers.specs.declared.cheap.Priced.{Priced}
 use Rattle.cost_least.specs.declared.asking.Asked.{Asked}
 use Rattle.cost_least.specs.declared.asking.Asked.TheVariants.{Refuted, Spent}
 use Rattle.proof_ledger.proofs.AxiomLists.{none_learnt, marked_axioms, marked_clauses}

@@ -30,8 +30,8 @@ use Rattle.cost_least.specs.Asking.{HasAskedCost}
 use Rattle.cost_least.specs.Pricing.{ExplainsAt}
 use Rattle.cost_least.specs.Searching.{HasHalved, HasFoundCost, FinalsAreBelowTotal}
 use Rattle.cost_least.specs.Weighed.{log_guards, assumed_at}
-use Rattle.cost_least.specs.declared.answer.Cheap.TheVariants.{Found, Dear, Undecided}
-use Rattle.cost_least.specs.declared.answer.Priced.{Priced}
+use Rattle.answers.specs.declared.cheap.Cheap.TheVariants.{Found, Dear, Undecided}
+use Rattle.answers.specs.declared.cheap.Priced.{Priced}
 use Rattle.cost_least.specs.declared.asking.Asked.TheVariants.{Explained, Refuted, Spent}
 use Rattle.prop_core.proofs.Negations.{NegatesLast, split_negates}
 

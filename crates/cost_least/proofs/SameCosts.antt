@@ -28,9 +28,9 @@ use Rattle.cost_least.specs.Drawn.{IsCostClause, cost_literals}
 use Rattle.cost_least.specs.Costs.{IsCheapest, IsDear, IsExplainedAt, event_cost, total, word_cost}
 use Rattle.cost_least.specs.Pricing.{ExplainsAt, named_weights}
 use Rattle.cost_least.specs.Weighed.{AreWeighedParts, AreWeightedInputs, event_weights, fault_weights, weighs_one}
-use Rattle.cost_least.specs.declared.answer.Cheap.{Cheap}
-use Rattle.cost_least.specs.declared.answer.Cheap.TheVariants.{Found, Absent, Dear, Undecided}
-use Rattle.cost_least.specs.declared.answer.Priced.{Priced}
+use Rattle.answers.specs.declared.cheap.Cheap.{Cheap}
+use Rattle.answers.specs.declared.cheap.Cheap.TheVariants.{Found, Absent, Dear, Undecided}
+use Rattle.answers.specs.declared.cheap.Priced.{Priced}
 
 -- only an event of the network is a fault
 pub fault_known : (net : Net) (e : ℕ) → is_fault net e ≡ true → e < length net.events

@@ -20,9 +20,9 @@ use Rattle.weight_counter.specs.declared.scale.Scale.{Scale}
 use Rattle.cost_least.specs.Costs.{total, NeedsCost, IsCheapest, IsDear}
 use Rattle.cost_least.specs.Pricing.{PosesCosts}
 use Rattle.cost_least.specs.Weighed.{assumed_at}
-use Rattle.cost_least.specs.declared.answer.Priced.{Priced}
-use Rattle.cost_least.specs.declared.answer.Cheap.{Cheap}
-use Rattle.cost_least.specs.declared.answer.Cheap.TheVariants.{Found, Absent, Dear, Undecided}
+use Rattle.answers.specs.declared.cheap.Priced.{Priced}
+use Rattle.answers.specs.declared.cheap.Cheap.{Cheap}
+use Rattle.answers.specs.declared.cheap.Cheap.TheVariants.{Found, Absent, Dear, Undecided}
 
 -- what is asked about: a network, what its fault events cost, a log, and so many steps
 pub record CostAsked : Type 0 where

@@ -12,7 +12,7 @@ use Rattle.sat_solve.specs.Searching.{AreLearnt}
 use Rattle.weight_counter.specs.declared.scale.Scale.{Scale}
 use Rattle.cost_least.specs.Answers.{CostAsked, IsPriced, Needs}
 use Rattle.cost_least.specs.Weighed.{assumed_at}
-use Rattle.cost_least.specs.declared.answer.Priced.{Priced}
+use Rattle.answers.specs.declared.cheap.Priced.{Priced}
 use Rattle.cost_least.specs.declared.asking.Asked.{Asked}
 use Rattle.cost_least.specs.declared.asking.Asked.TheVariants.{Explained, Refuted, Spent}
 

@@ -12,9 +12,9 @@ ghost use Rattle.cost_least.specs.Pricing.{cost_limit};
 ghost use Rattle.cost_least.specs.Searching.{MayBound, GoesOnWeighed, IsSolvedUnder, asked_of, AreAsked, IsTotalOf};
 ghost use Rattle.cost_least.specs.Weighed.{AreWeighed, assumed_at};
 
-use crate::answer::Priced;
 use crate::question::{CostQuestion, has_guards};
 use crate::run_costs::run_cost;
+use answers::Priced;
 use des_base::Memory;
 use event_costs::Costs;
 use least_faults::Parts;

@@ -8,7 +8,6 @@
 //! `costs_are_told` is the law that the clauses tell just that and are of these families.
 #![tactic(auto)]
 
-mod answer;
 mod asking;
 mod laws;
 mod question;
@@ -17,7 +16,7 @@ mod searching;
 mod size;
 mod weighing;
 
-pub use answer::{Cheap, Priced};
+pub use answers::{Cheap, Priced};
 pub use laws::{
     bounds_are_not_stated, costs_are_ruled_out, costs_are_told, costs_are_weights,
     scaled_parts_tell,

@@ -11,10 +11,10 @@ ghost use Rattle.cost_least.specs.Costs.{cost_size};
 ghost use Rattle.cost_least.specs.Searching.{AreAsked, GoesOnWeighed, HasAnsweredCosts, asked_of, HasFoundCost};
 ghost use Rattle.cost_least.specs.Weighed.{AreWeighed, KeepsCode};
 
-use crate::answer::{Cheap, Priced};
 use crate::asking::{Asked, ask};
 use crate::question::{CostQuestion, has_guards};
 use crate::weighing::weigh;
+use answers::{Cheap, Priced};
 use des_base::Memory;
 use des_net::Network;
 use event_costs::{Costs, MOST_COST};

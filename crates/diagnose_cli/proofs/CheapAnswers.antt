@@ -3,15 +3,15 @@ use Rattle.std.proofs.Common.{◌≡◌, ◌∙◌, ◌≤◌, ◌<◌, ℕ, Lis
 use Rattle.std.specs.Prelude.{option_map}
 use Rattle.cost_least.specs.Answers.{CostAsked, IsCheapFound, IsRunAt}
 use Rattle.cost_least.specs.Costs.{cost_size}
-use Rattle.cost_least.specs.declared.answer.Cheap.{Cheap}
-use Rattle.cost_least.specs.declared.answer.Cheap.TheVariants.{Found, Absent, Dear, Undecided}
+use Rattle.answers.specs.declared.cheap.Cheap.{Cheap}
+use Rattle.answers.specs.declared.cheap.Cheap.TheVariants.{Found, Absent, Dear, Undecided}
 use Rattle.des_base.specs.CommandWords.{word_at}
 use Rattle.des_net.specs.Building.{IsDraft}
 use Rattle.des_net.specs.Network.{Net, IsNetwork}
 use Rattle.event_costs.specs.CostText.{IsTableOf, cost_of}
 use Rattle.event_costs.specs.Prices.{cost_at}
-use Rattle.inquiries.specs.LeastCost.{CostAlike, LeavesCosts}
-use Rattle.inquiries.proofs.PricedBooks.{leaves_alike, priced_alike}
+use Rattle.pricing.specs.LeastCost.{CostAlike, LeavesCosts}
+use Rattle.pricing.proofs.PricedBooks.{leaves_alike, priced_alike}
 use Rattle.least_faults.proofs.KnownEvents.{run_known}
 use Rattle.least_faults.specs.declared.TheConstants.{MOST_SIZE}
 use Rattle.log_csv.specs.LogText.{log_of}

@@ -1,13 +1,13 @@
 -- What the status of a question of costs tells.
 use Rattle.std.proofs.Common.{◌≡◌, ◌≤◌, ◌<◌, ◌^◌, ℕ, List, [], ◌∷◌, Option, Some, None, IfSome, sym, ◌∙◌, subst, arith}
 use Rattle.cost_least.specs.Answers.{CostAsked, IsKnownAbove, IsPriced}
-use Rattle.cost_least.specs.declared.answer.Cheap.{Cheap}
-use Rattle.cost_least.specs.declared.answer.Cheap.TheVariants.{Found, Absent, Dear, Undecided}
-use Rattle.cost_least.specs.declared.answer.Priced.{Priced}
+use Rattle.answers.specs.declared.cheap.Cheap.{Cheap}
+use Rattle.answers.specs.declared.cheap.Cheap.TheVariants.{Found, Absent, Dear, Undecided}
+use Rattle.answers.specs.declared.cheap.Priced.{Priced}
 use Rattle.des_base.specs.CommandWords.{word_at}
 use Rattle.des_base.specs.Outside.{Took}
-use Rattle.inquiries.specs.LeastCost.{IsPricedBy, cost_variables}
-use Rattle.inquiries.proofs.PricedBooks.{unpriced_is_small}
+use Rattle.pricing.specs.LeastCost.{IsPricedBy, cost_variables}
+use Rattle.pricing.proofs.PricedBooks.{unpriced_is_small}
 use Rattle.least_faults.proofs.Freshness.{fresh_closed}
 use Rattle.log_csv.specs.LogText.{log_of}
 use Rattle.model_text.specs.ModelFaults.{network_of}

@@ -4,7 +4,7 @@ use Rattle.des_base.specs.CommandWords.{word_at}
 use Rattle.des_net.specs.Network.{Net}
 use Rattle.event_costs.specs.CostText.{cost_of}
 use Rattle.inquiries.specs.Begun.{HasLearntWithin, LeavesQuestion}
-use Rattle.inquiries.specs.LeastCost.{LeavesCosts}
+use Rattle.pricing.specs.LeastCost.{LeavesCosts}
 use Rattle.gen_plant.specs.Plant.{plant_net, plant_log}
 use Rattle.log_csv.specs.LogText.{log_of}
 use Rattle.log_order.specs.Log.{Log as AlarmLog}

@@ -6,8 +6,8 @@ use Rattle.des_net.specs.Network.{Net, IsNetwork}
 use Rattle.inquiries.specs.Refuted.{IsVerifiedRefutation, IsRefutedBelow, IsRefutedFor, IsRefutedWithin, IsRefuting}
 use Rattle.inquiries.specs.declared.refutation.Refuted.{Refuted}
 use Rattle.inquiries.specs.declared.refutation.Refuted.TheVariants.{Within, Nothing, Undecided as NotRefuted}
-use Rattle.least_faults.specs.declared.answer.Found.{Found}
-use Rattle.least_faults.specs.declared.answer.Found.TheVariants.{Explained, Absent, Many, Undecided}
+use Rattle.answers.specs.declared.found.Found.{Found}
+use Rattle.answers.specs.declared.found.Found.TheVariants.{Explained, Absent, Many, Undecided}
 use Rattle.log_order.specs.Adding.{IsLog}
 use Rattle.log_order.specs.Log.{Log as AlarmLog}
 use Rattle.proof_ledger.specs.Book.{BookEntry}

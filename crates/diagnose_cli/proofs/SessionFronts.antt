@@ -12,8 +12,8 @@ use Rattle.des_net.specs.Building.{IsDraft}
 use Rattle.des_net.specs.Network.{Net, IsNetwork}
 use Rattle.least_faults.proofs.Deciding.{undecided_is_small}
 use Rattle.least_faults.specs.Answers.{IsAnswered}
-use Rattle.least_faults.specs.declared.answer.Found.{Found}
-use Rattle.least_faults.specs.declared.answer.Found.TheVariants.{Explained, Absent, Many, Undecided}
+use Rattle.answers.specs.declared.found.Found.{Found}
+use Rattle.answers.specs.declared.found.Found.TheVariants.{Explained, Absent, Many, Undecided}
 use Rattle.log_csv.specs.declared.row.Row.{Row}
 use Rattle.log_order.specs.Adding.{IsLog}
 use Rattle.log_order.specs.Log.{Log}

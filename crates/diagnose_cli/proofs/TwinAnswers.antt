@@ -23,8 +23,8 @@ use Rattle.report.specs.Replies.{TwinEventsKnown, text_of_run}
 use Rattle.twin_test.proofs.Decoding.{word_is}
 use Rattle.twin_test.specs.Tested.{IsTested, LeavesTwins, run_of_pieces, unnamed}
 use Rattle.twin_test.specs.Twins.{AreAligned, twin_size}
-use Rattle.twin_test.specs.declared.answer.Twin.{Twin as TwinAnswer}
-use Rattle.twin_test.specs.declared.answer.Twin.TheVariants.{Ambiguous, Clear, Undecided}
+use Rattle.answers.specs.declared.twin.Twin.{Twin as TwinAnswer}
+use Rattle.answers.specs.declared.twin.Twin.TheVariants.{Ambiguous, Clear, Undecided}
 use Rattle.diagnose_cli.specs.declared.command.Command.TheVariants.{One}
 use Rattle.diagnose_cli.specs.declared.command.Single.TheVariants.{Twin}
 use Rattle.endings.specs.declared.ending.Kind.{Kind}

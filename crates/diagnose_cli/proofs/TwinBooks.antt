@@ -15,9 +15,9 @@ use Rattle.prop_core.specs.Trail.{has_var}
 use Rattle.twin_test.proofs.Testing.{book_axioms, marked}
 use Rattle.twin_test.specs.Tested.{IsClosedBook, IsTested}
 use Rattle.twin_test.specs.TwinCodes.{AskTwins, twin_clauses, twin_variables}
-use Rattle.twin_test.specs.declared.answer.Twin.{Twin}
-use Rattle.twin_test.specs.declared.answer.Twin.TheVariants.{Undecided}
-use Rattle.inquiries.proofs.PricedBooks.{known_below}
+use Rattle.answers.specs.declared.twin.Twin.{Twin}
+use Rattle.answers.specs.declared.twin.Twin.TheVariants.{Undecided}
+use Rattle.pricing.proofs.PricedBooks.{known_below}
 
 -- ---- the closing mark has no clause
 

@@ -11,8 +11,8 @@ use Rattle.prop_core.specs.Trail.{Clashes}
 use Rattle.report.specs.Replies.{text_of_twin}
 use Rattle.twin_test.specs.Tested.{IsTested}
 use Rattle.twin_test.specs.TwinCodes.{twin_variables}
-use Rattle.twin_test.specs.declared.answer.Twin.{Twin as TwinAnswer}
-use Rattle.twin_test.specs.declared.answer.Twin.TheVariants.{Ambiguous, Clear, Undecided}
+use Rattle.answers.specs.declared.twin.Twin.{Twin as TwinAnswer}
+use Rattle.answers.specs.declared.twin.Twin.TheVariants.{Ambiguous, Clear, Undecided}
 use Rattle.diagnose_cli.specs.declared.command.Command.TheVariants.{One}
 use Rattle.diagnose_cli.specs.declared.command.Single.TheVariants.{Twin}
 use Rattle.endings.specs.declared.ending.Kind.{Kind}

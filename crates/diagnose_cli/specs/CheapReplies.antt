@@ -1,9 +1,9 @@
 -- What `cheapest` may say.
 use Rattle.std.specs.Prelude.{◌≡◌, ℕ, List, IfSome}
-use Rattle.cost_least.specs.declared.answer.Cheap.{Cheap}
-use Rattle.cost_least.specs.declared.answer.Cheap.TheVariants.{Found, Absent as NotPriced, Dear, Undecided as NotWeighed}
+use Rattle.answers.specs.declared.cheap.Cheap.{Cheap}
+use Rattle.answers.specs.declared.cheap.Cheap.TheVariants.{Found, Absent as NotPriced, Dear, Undecided as NotWeighed}
 use Rattle.des_net.specs.Network.{Net}
-use Rattle.inquiries.specs.LeastCost.{IsPricedBy}
+use Rattle.pricing.specs.LeastCost.{IsPricedBy}
 use Rattle.log_order.specs.Log.{Log as AlarmLog}
 use Rattle.proof_ledger.specs.Book.{BookEntry}
 use Rattle.report.specs.ReadBack.{IsRunText}

@@ -2,11 +2,11 @@
 use Rattle.std.specs.Prelude.{◌≡◌, ℕ, ◌<◌, List, [], ◌∷◌, Option, IfSome}
 use Rattle.cost_least.specs.Answers.{CostAsked, HasConflictAt, IsPriced, IsRunAt}
 use Rattle.cost_least.specs.Costs.{IsCheapest, IsDear, NeedsCost}
-use Rattle.cost_least.specs.declared.answer.Cheap.TheVariants.{Found, Dear, Undecided}
-use Rattle.cost_least.specs.declared.answer.Priced.{Priced}
+use Rattle.answers.specs.declared.cheap.Cheap.TheVariants.{Found, Dear, Undecided}
+use Rattle.answers.specs.declared.cheap.Priced.{Priced}
 use Rattle.des_base.specs.Outside.{Took}
 use Rattle.event_costs.specs.CostText.{cost_of}
-use Rattle.inquiries.specs.LeastCost.{HasCostQuestion}
+use Rattle.pricing.specs.LeastCost.{HasCostQuestion}
 use Rattle.log_csv.specs.LogText.{log_of}
 use Rattle.model_text.specs.ModelFaults.{network_of}
 use Rattle.proof_ledger.specs.Fresh.{AreFresh}

@@ -1,7 +1,7 @@
 -- A budget that decides each question.
 use Rattle.std.specs.Prelude.{◌≢◌, ℕ, ◌^◌, ◌≤◌, List, [], ◌∷◌}
 use Rattle.gen_plant.specs.Plant.{plant_net, plant_log}
-use Rattle.inquiries.specs.LeastCost.{cost_variables}
+use Rattle.pricing.specs.LeastCost.{cost_variables}
 use Rattle.log_csv.specs.LogText.{log_of}
 use Rattle.model_text.specs.ModelFaults.{network_of}
 use Rattle.diagnose_cli.specs.declared.command.Command.{Command}

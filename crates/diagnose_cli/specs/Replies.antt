@@ -7,8 +7,8 @@ use Rattle.model_text.specs.ModelFaults.{network_of}
 use Rattle.model_text.specs.PrintedModel.{model_text}
 use Rattle.model_text.specs.ReadBack.{ReadsBack}
 use Rattle.replay.specs.RunText.{run_of, first_run_fault}
-use Rattle.least_faults.specs.declared.answer.Found.{Found}
-use Rattle.least_faults.specs.declared.answer.Found.TheVariants.{Explained, Absent as NotExplained, Many as ManyFaults, Undecided as NotDecided}
+use Rattle.answers.specs.declared.found.Found.{Found}
+use Rattle.answers.specs.declared.found.Found.TheVariants.{Explained, Absent as NotExplained, Many as ManyFaults, Undecided as NotDecided}
 use Rattle.log_order.specs.Adding.{names_of}
 use Rattle.log_order.specs.Log.{Log as AlarmLog}
 use Rattle.log_csv.specs.LogText.{log_of}

@@ -8,10 +8,11 @@ use Rattle.des_net.specs.Network.{Net}
 use Rattle.event_costs.specs.CostText.{cost_of}
 use Rattle.gen_plant.specs.Plant.{plant_net, plant_log}
 use Rattle.inquiries.specs.Begun.{HasLearntWithin, LeavesQuestion, MayLearn}
-use Rattle.inquiries.specs.LeastCost.{LeavesCosts}
-use Rattle.least_faults.specs.Answers.{asked_last, HasConflict, IsExplanation}
-use Rattle.least_faults.specs.declared.answer.Best.{Best}
-use Rattle.least_faults.specs.declared.answer.Found.TheVariants.{Explained, Many, Undecided}
+use Rattle.pricing.specs.LeastCost.{LeavesCosts}
+use Rattle.answers.specs.Explanations.{IsExplanation}
+use Rattle.least_faults.specs.Answers.{asked_last, HasConflict}
+use Rattle.answers.specs.declared.found.Best.{Best}
+use Rattle.answers.specs.declared.found.Found.TheVariants.{Explained, Many, Undecided}
 use Rattle.log_csv.specs.LogText.{log_of}
 use Rattle.log_csv.specs.ScriptText.{script_of}
 use Rattle.log_csv.specs.declared.row.Row.{Row as ScriptRow}

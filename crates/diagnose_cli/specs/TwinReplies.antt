@@ -6,8 +6,8 @@ use Rattle.proof_ledger.specs.Book.{BookEntry}
 use Rattle.report.specs.Replies.{text_of_twin, text_of_run}
 use Rattle.report.specs.ReadBack.{IsRunText}
 use Rattle.twin_test.specs.Tested.{IsTested, LeavesTwins}
-use Rattle.twin_test.specs.declared.answer.Twin.{Twin as TwinAnswer}
-use Rattle.twin_test.specs.declared.answer.Twin.TheVariants.{Ambiguous as AlikeRuns, Clear, Undecided as NotTested}
+use Rattle.answers.specs.declared.twin.Twin.{Twin as TwinAnswer}
+use Rattle.answers.specs.declared.twin.Twin.TheVariants.{Ambiguous as AlikeRuns, Clear, Undecided as NotTested}
 use Rattle.endings.specs.declared.ending.Kind.{Kind}
 use Rattle.endings.specs.declared.ending.Kind.TheVariants.{Done, Undecided, Ambiguous}
 

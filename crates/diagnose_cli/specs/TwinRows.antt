@@ -12,7 +12,7 @@ use Rattle.replay.specs.declared.run.RunStep.{RunStep}
 use Rattle.report.specs.Replies.{text_of_twin}
 use Rattle.twin_test.specs.Tested.{AreTwinRuns, IsClosedBook, NoTwins}
 use Rattle.twin_test.specs.TwinCodes.{AskTwins, twin_variables}
-use Rattle.twin_test.specs.declared.answer.Twin.TheVariants.{Ambiguous, Clear, Undecided}
+use Rattle.answers.specs.declared.twin.Twin.TheVariants.{Ambiguous, Clear, Undecided}
 use Rattle.diagnose_cli.specs.declared.command.Command.TheVariants.{One}
 use Rattle.diagnose_cli.specs.declared.command.Single.TheVariants.{Twin}
 use Rattle.diagnose_cli.specs.Outcomes.{Outcome}

@@ -1,9 +1,9 @@
 -- What `verdicts` says: the reply of `diagnose`, and behind a least number of faults one reply on each fault event, in order.
 use Rattle.std.specs.Prelude.{◌≡◌, ℕ, true, false, List, Result, Ok, Err, IsOkAnd}
 use Rattle.des_net.specs.Network.{Net}
-use Rattle.fault_verdicts.specs.declared.answer.Verdict.{Verdict}
+use Rattle.answers.specs.declared.verdict.Verdict.{Verdict}
 use Rattle.least_faults.specs.Growing.{HasGrownWithin}
-use Rattle.least_faults.specs.declared.answer.Found.{Found}
+use Rattle.answers.specs.declared.found.Found.{Found}
 use Rattle.log_order.specs.Log.{Log as AlarmLog}
 use Rattle.proof_ledger.specs.Book.{BookEntry}
 use Rattle.telling.specs.declared.each.Broken.{Broken}

@@ -13,8 +13,8 @@ use Rattle.fault_verdicts.proofs.Judged.{asked_beside, open_found, possible_foun
 use Rattle.fault_verdicts.specs.Asked.{IsPosedOf, some_step_clauses}
 use Rattle.fault_verdicts.specs.Judged.{FinalsNegateAssumed, IsBestRun, IsJudged, IsVerdict}
 use Rattle.fault_verdicts.specs.Judging.{AreAssumedOf, IsSolvedAbout, IsSaidBy, IsVerdictShown, KeepsStepsAndLog, bound_for, verdict_of}
-use Rattle.fault_verdicts.specs.declared.answer.Verdict.{Verdict}
-use Rattle.fault_verdicts.specs.declared.answer.Verdict.TheVariants.{Possible, Open}
+use Rattle.answers.specs.declared.verdict.Verdict.{Verdict}
+use Rattle.answers.specs.declared.verdict.Verdict.TheVariants.{Possible, Open}
 use Rattle.least_faults.proofs.Asked.{axioms_true, searching_both}
 use Rattle.least_faults.proofs.Assuming.{negates_only}
 use Rattle.least_faults.proofs.Entailing.{final_entailed}

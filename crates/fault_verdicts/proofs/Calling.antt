@@ -4,8 +4,8 @@ use Rattle.des_base.specs.declared.TheConstants.{MOST_COLUMNS}
 use Rattle.des_net.specs.Network.{Net}
 use Rattle.fault_verdicts.specs.Judged.{IsBestRun}
 use Rattle.fault_verdicts.specs.Judging.{KeepsStepsAndLog}
-use Rattle.least_faults.specs.Answers.{IsExplanation}
-use Rattle.least_faults.specs.declared.answer.Best.{Best}
+use Rattle.answers.specs.Explanations.{IsExplanation}
+use Rattle.answers.specs.declared.found.Best.{Best}
 use Rattle.least_faults.specs.declared.parts.Parts.{Parts}
 use Rattle.log_order.specs.Log.{Log}
 use Rattle.replay.specs.Explanation.{IsLeast}

@@ -13,7 +13,7 @@ use Rattle.fault_verdicts.specs.Asked.{Question, without, with_event, IsPosedOf,
 use Rattle.fault_verdicts.specs.Judged.{IsBestRun, IsVerdict, IsPossibleFound, IsAskedBeside}
 use Rattle.fault_verdicts.specs.Judging.{IsAbout, verdict_of}
 use Rattle.fault_verdicts.specs.Verdicts.{IsBest}
-use Rattle.fault_verdicts.specs.declared.answer.Verdict.TheVariants.{Possible, Open}
+use Rattle.answers.specs.declared.verdict.Verdict.TheVariants.{Possible, Open}
 use Rattle.least_faults.specs.Evidence.{HasFinal}
 use Rattle.log_clauses.proofs.Lists.{all_at}
 use Rattle.log_order.specs.Log.{Log}

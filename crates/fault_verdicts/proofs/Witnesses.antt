@@ -13,10 +13,10 @@ use Rattle.fault_verdicts.specs.Judged.{IsBestRun, IsJudged, IsPossibleFound}
 use Rattle.fault_verdicts.specs.Judges.{AddsPossible, DiffersIn, IsEventJudged, IsJudgeOf, KeepsSteps, matter_of}
 use Rattle.fault_verdicts.specs.Judging.{KeepsStepsAndLog}
 use Rattle.fault_verdicts.specs.Verdicts.{IsPossible}
-use Rattle.fault_verdicts.specs.declared.answer.Verdict.{Verdict}
-use Rattle.fault_verdicts.specs.declared.answer.Verdict.TheVariants.{Possible}
+use Rattle.answers.specs.declared.verdict.Verdict.{Verdict}
+use Rattle.answers.specs.declared.verdict.Verdict.TheVariants.{Possible}
 use Rattle.fault_verdicts.specs.declared.kept.Kept.{Kept}
-use Rattle.least_faults.specs.declared.answer.Best.{Best}
+use Rattle.answers.specs.declared.found.Best.{Best}
 use Rattle.log_clauses.proofs.Lists.{all_at}
 use Rattle.log_order.specs.Log.{Log}
 use Rattle.proof_ledger.specs.Book.{BookEntry}

@@ -3,8 +3,8 @@ use Rattle.std.specs.Prelude.{◌≡◌, ◌↔◌, ℕ, ◌≤◌, List, [], �
 use Rattle.des_net.specs.Network.{Net}
 use Rattle.fault_verdicts.specs.Asked.{Question, without, with_event, IsPosedOf}
 use Rattle.fault_verdicts.specs.Verdicts.{IsBest, IsCertain, IsExcluded, IsPossible}
-use Rattle.fault_verdicts.specs.declared.answer.Verdict.{Verdict}
-use Rattle.fault_verdicts.specs.declared.answer.Verdict.TheVariants.{Certain, Excluded, Possible, Open}
+use Rattle.answers.specs.declared.verdict.Verdict.{Verdict}
+use Rattle.answers.specs.declared.verdict.Verdict.TheVariants.{Certain, Excluded, Possible, Open}
 use Rattle.least_faults.specs.Answers.{HaveLearntFresh}
 use Rattle.least_faults.specs.Evidence.{HasFinal}
 use Rattle.log_order.specs.Log.{Log}

@@ -5,11 +5,11 @@ use Rattle.des_base.specs.declared.TheConstants.{MOST_STEPS}
 use Rattle.des_net.specs.Network.{Net}
 use Rattle.fault_verdicts.specs.Judged.{IsBestRun, IsJudged, IsPossibleFound}
 use Rattle.fault_verdicts.specs.Ready.{AreReadyForVerdicts}
-use Rattle.fault_verdicts.specs.declared.answer.Verdict.{Verdict}
-use Rattle.fault_verdicts.specs.declared.answer.Verdict.TheVariants.{Possible}
+use Rattle.answers.specs.declared.verdict.Verdict.{Verdict}
+use Rattle.answers.specs.declared.verdict.Verdict.TheVariants.{Possible}
 use Rattle.fault_verdicts.specs.declared.kept.Kept.{Kept}
 use Rattle.least_faults.specs.Parts.{BelongTo}
-use Rattle.least_faults.specs.declared.answer.Best.{Best}
+use Rattle.answers.specs.declared.found.Best.{Best}
 use Rattle.least_faults.specs.declared.parts.Parts.{Parts}
 use Rattle.log_order.specs.Log.{Log}
 use Rattle.proof_ledger.specs.Book.{BookEntry}

@@ -6,8 +6,8 @@ use Rattle.des_net.specs.Network.{Net}
 use Rattle.fault_verdicts.specs.Asked.{no_step_literals}
 use Rattle.fault_verdicts.specs.Judged.{FinalsNegateAssumed, IsQuestionAbout, IsVerdict}
 use Rattle.fault_verdicts.specs.Ready.{AreReadyWith}
-use Rattle.fault_verdicts.specs.declared.answer.Verdict.{Verdict}
-use Rattle.fault_verdicts.specs.declared.answer.Verdict.TheVariants.{Certain, Excluded}
+use Rattle.answers.specs.declared.verdict.Verdict.{Verdict}
+use Rattle.answers.specs.declared.verdict.Verdict.TheVariants.{Certain, Excluded}
 use Rattle.least_faults.specs.Asking.{AreAssumptions, IsSearching}
 use Rattle.least_faults.specs.Evidence.{HasFinal}
 use Rattle.least_faults.specs.Growing.{KeepsColumns}

@@ -8,9 +8,9 @@ ghost use Rattle.fault_verdicts.specs.Ready.{AreReadyForVerdicts};
 ghost use Rattle.least_faults.specs.Growing.{HasGrownWithin};
 ghost use Rattle.least_faults.specs.Parts.{BelongTo};
 
-use crate::answer::Verdict;
 use crate::kept::{About, Kept};
 use crate::others::judge_kept;
+use answers::Verdict;
 use des_base::{EventId, Memory};
 use des_net::Network;
 use least_faults::{Best, Parts};

@@ -10,8 +10,8 @@ ghost use Rattle.least_faults.specs.Growing.{AddsAxioms, HasGrownWithin};
 ghost use Rattle.least_faults.specs.Parts.{BelongTo};
 ghost use Rattle.replay.specs.Traced.{event_of, word_of};
 
-use crate::answer::Verdict;
 use crate::assuming::{assume_none, assume_some};
+use answers::Verdict;
 use des_base::{EventId, Memory};
 use des_net::Network;
 use least_faults::Parts;

@@ -7,7 +7,6 @@
 //! - A final entry of negated assumptions shows that an event is certain or excluded, and a run that it is possible.
 #![tactic(auto)]
 
-mod answer;
 mod assuming;
 mod judge;
 mod judging;
@@ -17,7 +16,7 @@ mod listing;
 mod literals;
 mod others;
 
-pub use answer::Verdict;
+pub use answers::Verdict;
 pub use judge::Judge;
 pub use judging::verdict;
 pub use laws::{events_are_posed, verdicts_are_apart};

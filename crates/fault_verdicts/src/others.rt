@@ -5,9 +5,9 @@ ghost use Rattle.fault_verdicts.specs.Judged.{IsPossibleFound};
 ghost use Rattle.fault_verdicts.specs.Judges.{AddsPossible, DiffersIn, IsEventJudged, IsJudgeOf, IsReadyToJudge, KeepsSteps, matter_of};
 ghost use Rattle.least_faults.specs.Growing.{HasGrownWithin};
 
-use crate::answer::Verdict;
 use crate::judging::{has_event, verdict};
 use crate::kept::{About, Kept};
+use answers::Verdict;
 use des_base::{EventId, Memory, Name};
 use replay::{Run, RunStep};
 use std::alloc::Global;

@@ -5,7 +5,7 @@ use Rattle.des_base.specs.declared.TheConstants.{MOST_STEPS}
 use Rattle.des_net.specs.Network.{Net}
 use Rattle.least_faults.proofs.AxiomLists.{adds_both}
 use Rattle.least_faults.proofs.Freshness.{fresh_axioms, fresh_both}
-use Rattle.least_faults.specs.declared.answer.Found.{Found}
+use Rattle.answers.specs.declared.found.Found.{Found}
 use Rattle.least_faults.specs.declared.parts.Parts.{Parts}
 use Rattle.least_faults.specs.Answers.{HaveLearntFresh, IsAnswered}
 use Rattle.least_faults.proofs.Staying.{belong_still, built_still}

@@ -2,5 +2,3 @@ pub mod Diagnosing
 mod Formulas
 mod LastFinals
 pub mod Refutations
-mod Weighing
-pub mod PricedBooks

@@ -11,8 +11,8 @@ use Rattle.des_base.proofs.Elements.{all_at, all_from, cons_cases, here_first, m
 use Rattle.des_base.specs.Lists.{numbers_below}
 use Rattle.des_net.specs.Network.{Net, IsNetwork}
 use Rattle.least_faults.proofs.ColumnsBuilt.{question_within_bound}
-use Rattle.least_faults.specs.declared.answer.Found.{Found}
-use Rattle.least_faults.specs.declared.answer.Found.TheVariants.{Explained, Absent, Many, Undecided}
+use Rattle.answers.specs.declared.found.Found.{Found}
+use Rattle.answers.specs.declared.found.Found.TheVariants.{Explained, Absent, Many, Undecided}
 use Rattle.least_faults.specs.declared.parts.Parts.{Parts}
 use Rattle.least_faults.specs.Answers.{IsAnswered}
 use Rattle.least_faults.specs.Asking.{AreAssumed, assumed_by, bound_part}

@@ -2,7 +2,7 @@
 use Rattle.std.specs.Prelude.{◌≡◌, ℕ, List, map}
 use Rattle.des_net.specs.Network.{Net}
 use Rattle.least_faults.specs.Answers.{IsAnswered}
-use Rattle.least_faults.specs.declared.answer.Found.{Found}
+use Rattle.answers.specs.declared.found.Found.{Found}
 use Rattle.log_order.specs.Log.{Log}
 use Rattle.proof_ledger.specs.Book.{BookEntry, axiomatic, axioms_of, IsValidBook}
 use Rattle.prop_core.specs.VariableNames.{Meaning}

@@ -2,4 +2,3 @@ pub mod Begun
 pub mod Diagnosed
 pub mod Formula
 pub mod Refuted
-pub mod LeastCost

@@ -3,8 +3,8 @@ use Rattle.std.specs.Prelude.{◌≡◌, ◌<◌, ◌≤◌, ⊤, ℕ, zero, suc
 use Rattle.std.specs.List.{list_any}
 use Rattle.card_counter.specs.CounterState.{CounterState}
 use Rattle.des_net.specs.Network.{Net}
-use Rattle.least_faults.specs.declared.answer.Found.{Found}
-use Rattle.least_faults.specs.declared.answer.Found.TheVariants.{Explained, Absent, Many, Undecided}
+use Rattle.answers.specs.declared.found.Found.{Found}
+use Rattle.answers.specs.declared.found.Found.TheVariants.{Explained, Absent, Many, Undecided}
 use Rattle.least_faults.specs.declared.parts.Parts.{Parts}
 use Rattle.least_faults.specs.Evidence.{IsPosed, IsEvidence, is_final}
 use Rattle.least_faults.specs.Parts.{meanings_of_parts}

@@ -6,20 +6,17 @@
 //! - [`LeastFaults`] asks for the least number of faults, [`FormulaWithin`] for the question as a formula, and [`Refutation`] for the
 //!   proof that fewer faults won't do.
 //! - [`begin`] and [`find_least`] are what several ask by: the question is written, and the least number of faults is searched for.
-//! - [`least_cost`] writes the question and clauses that weigh its faults, and asks for the least total cost.
 //!
 //! Whatever is asked, and also where memory is wanting, the axioms of the book that is left are those of the question.
 #![tactic(auto)]
 
 mod formula;
 mod least;
-mod pricing;
 mod question;
 mod refutation;
 mod refuting;
 
 pub use formula::FormulaWithin;
 pub use least::{LeastFaults, find_least};
-pub use pricing::least_cost;
 pub use question::{Case, Inquiry, begin, pose};
 pub use refutation::{Refutation, Refuted};

@@ -12,12 +12,13 @@ use Rattle.least_faults.proofs.KnownVariables.{known_back, known_front}
 use Rattle.least_faults.proofs.Posing.{poses}
 use Rattle.least_faults.proofs.Putting.{no_final_in, learnt_no_final, last_later, last_earlier}
 use Rattle.least_faults.proofs.Telling.{tells_bound}
-use Rattle.least_faults.specs.declared.answer.Best.{Best}
-use Rattle.least_faults.specs.declared.answer.Found.{Found}
-use Rattle.least_faults.specs.declared.answer.Found.TheVariants.{Explained, Absent, Many, Undecided}
+use Rattle.answers.specs.declared.found.Best.{Best}
+use Rattle.answers.specs.declared.found.Found.{Found}
+use Rattle.answers.specs.declared.found.Found.TheVariants.{Explained, Absent, Many, Undecided}
 use Rattle.least_faults.specs.declared.asking.Asked.{Asked}
 use Rattle.least_faults.specs.declared.asking.Asked.TheVariants as asked
-use Rattle.least_faults.specs.Answers.{HasConflict, HasConflictFor, IsExplanation, IsFound, IsLeastFound, IsAbsentFound, IsManyFound, IsUndecidedFound}
+use Rattle.answers.specs.Explanations.{IsExplanation}
+use Rattle.least_faults.specs.Answers.{HasConflict, HasConflictFor, IsFound, IsLeastFound, IsAbsentFound, IsManyFound, IsUndecidedFound}
 use Rattle.least_faults.specs.Ascending.{FinalsAreBelow, IsRefutedAt, HasComeToBy, HasFound}
 use Rattle.least_faults.specs.Asking.{AreAssumptions, ArePut, IsSearching, HasAskedBy, IsRefusal, IsStopped}
 use Rattle.least_faults.specs.Columns.{built_within}

@@ -10,9 +10,9 @@ use Rattle.least_faults.proofs.Freshness.{fresh_both, fresh_mark, fresh_none, kn
 use Rattle.least_faults.proofs.KnownVariables.{known_back, known_joined}
 use Rattle.least_faults.proofs.Putting.{learnt_no_final, no_final_in, learnt_no_axioms}
 use Rattle.least_faults.proofs.Staying.{kept_by_axioms, with_axioms}
-use Rattle.least_faults.specs.declared.answer.Best.{Best}
-use Rattle.least_faults.specs.declared.answer.Found.{Found}
-use Rattle.least_faults.specs.declared.answer.Found.TheVariants.{Explained, Absent, Many, Undecided}
+use Rattle.answers.specs.declared.found.Best.{Best}
+use Rattle.answers.specs.declared.found.Found.{Found}
+use Rattle.answers.specs.declared.found.Found.TheVariants.{Explained, Absent, Many, Undecided}
 use Rattle.least_faults.specs.Answers.{asked_last, HasConflictFor, HaveLearntFresh, IsFound, IsAnswered}
 use Rattle.least_faults.specs.Ascending.{HasFound}
 use Rattle.least_faults.specs.Columns.{built_within, columns_for}

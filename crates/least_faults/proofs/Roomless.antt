@@ -8,8 +8,8 @@ use Rattle.least_faults.specs.Answers.{IsAnswered, IsFound}
 use Rattle.least_faults.specs.Columns.{columns_built, columns_for, built_within}
 use Rattle.least_faults.specs.Evidence.{IsEvidence}
 use Rattle.least_faults.specs.Parts.{built_of}
-use Rattle.least_faults.specs.declared.answer.Found.{Found}
-use Rattle.least_faults.specs.declared.answer.Found.TheVariants.{Explained, Absent, Many, Undecided}
+use Rattle.answers.specs.declared.found.Found.{Found}
+use Rattle.answers.specs.declared.found.Found.TheVariants.{Explained, Absent, Many, Undecided}
 use Rattle.least_faults.specs.declared.parts.Parts.{Parts}
 use Rattle.log_clauses.specs.Additions.{Addition, alarm_added, pair_added}
 use Rattle.log_encode.specs.CodedLog.{addition_width}

@@ -8,10 +8,10 @@ use Rattle.least_faults.proofs.Assuming.{assumed_below, compatible}
 use Rattle.least_faults.proofs.Posing.{poses}
 use Rattle.least_faults.proofs.Putting.{same_axioms}
 use Rattle.least_faults.proofs.Staying.{belong_still, built_for}
-use Rattle.least_faults.specs.declared.answer.Best.{Best}
+use Rattle.answers.specs.declared.found.Best.{Best}
 use Rattle.least_faults.specs.declared.asking.Asked.TheVariants.{Explained, Refuted, Spent}
 use Rattle.least_faults.specs.declared.parts.Parts.{Parts}
-use Rattle.least_faults.specs.Answers.{IsExplanation}
+use Rattle.answers.specs.Explanations.{IsExplanation}
 use Rattle.least_faults.specs.Asking.{AreAssumed, HasAsked, IsSolvedWithin}
 use Rattle.least_faults.specs.Columns.{built_within}
 use Rattle.least_faults.specs.Evidence.{IsPosed}

@@ -5,11 +5,11 @@ use Rattle.des_net.specs.Network.{Net}
 use Rattle.least_faults.proofs.Climbing.{come_on, come_further, searching_further}
 use Rattle.least_faults.proofs.Columns.{keeps_none, keeps_both}
 use Rattle.least_faults.proofs.ColumnsBuilt.{columns_both, question_columns, within_further, within_none}
-use Rattle.least_faults.specs.declared.answer.Best.{Best}
+use Rattle.answers.specs.declared.found.Best.{Best}
 use Rattle.least_faults.specs.declared.asking.Asked.{Asked}
 use Rattle.least_faults.specs.declared.asking.Asked.TheVariants.{Refuted}
 use Rattle.least_faults.specs.declared.parts.Parts.{Parts}
-use Rattle.least_faults.specs.Answers.{IsExplanation}
+use Rattle.answers.specs.Explanations.{IsExplanation}
 use Rattle.least_faults.specs.Ascending.{HasComeTo, HasComeToBy}
 use Rattle.least_faults.specs.Asking.{GoesOnReady, HasAsked, IsSearching}
 use Rattle.least_faults.specs.Columns.{columns_built, columns_for, built_within}

@@ -2,9 +2,10 @@
 use Rattle.std.specs.Prelude.{◌≡◌, ℕ, suc, ◌<◌, ◌≤◌, Bool, true, not, ◌||◌, List, [], ◌∷◌, ◌++◌, length, Option, Some, None, IfSome, IfNone, count_by, ⊤}
 use Rattle.std.specs.List.{list_all}
 use Rattle.des_net.specs.Network.{Net}
-use Rattle.least_faults.specs.declared.answer.Best.{Best}
-use Rattle.least_faults.specs.declared.answer.Found.{Found}
-use Rattle.least_faults.specs.declared.answer.Found.TheVariants.{Explained, Absent, Many, Undecided}
+use Rattle.answers.specs.Explanations.{IsExplanation}
+use Rattle.answers.specs.declared.found.Best.{Best}
+use Rattle.answers.specs.declared.found.Found.{Found}
+use Rattle.answers.specs.declared.found.Found.TheVariants.{Explained, Absent, Many, Undecided}
 use Rattle.least_faults.specs.Evidence.{FinalsNegate, HasFinal, IsEvidence, IsPosed}
 use Rattle.log_order.specs.Log.{Log}
 use Rattle.proof_ledger.specs.Book.{BookEntry, mark, axioms_of, clauses_of, is_mark}
@@ -12,10 +13,10 @@ use Rattle.proof_ledger.specs.Fresh.{AreFresh, is_learnt}
 use Rattle.prop_core.specs.Trail.{Clashes}
 use Rattle.prop_core.specs.VariableNames.{Meaning, ReadsAs}
 use Rattle.prop_core.specs.declared.lit.Lit.{Lit}
-use Rattle.replay.specs.Explanation.{Explains, faults_of, NeedsFaults, IsLeast, IsAbsent, IsMany}
-use Rattle.replay.specs.Matching.{IsWellMatched, is_real, order_of}
+use Rattle.replay.specs.Explanation.{NeedsFaults, IsLeast, IsAbsent, IsMany}
+use Rattle.replay.specs.Matching.{is_real}
 use Rattle.replay.specs.QuestionSize.{variable_bound}
-use Rattle.replay.specs.Traced.{word_of, step_faults}
+use Rattle.replay.specs.Traced.{step_faults}
 use Rattle.replay.specs.declared.run.RunStep.{RunStep}
 use Rattle.run_decode.specs.Drawn.{assumption_literals}
 use Rattle.run_decode.specs.QuestionAxioms.{BuiltQuestion}
@@ -23,12 +24,6 @@ use Rattle.run_decode.specs.QuestionAxioms.{BuiltQuestion}
 -- the entry of a run is a fault: a fault event, or a false alarm
 abbrev pub is_fault_entry : Net → RunStep → Bool
 is_fault_entry net entry = step_faults net entry || not (is_real entry)
-
--- a run that explains the log, and the number of its faults
-pub record IsExplanation (net : Net) (log : Log) (n : ℕ) (best : Best) : Type 0 where
-  pub matched : IsWellMatched net log best.run
-  pub explains : Explains net log n (word_of best.run) (order_of log best.run)
-  pub faults : faults_of net (word_of best.run) (order_of log best.run) ≡ best.faults
 
 -- ---- the answers, with what the entries since the question was opened show, where it was built so first
 

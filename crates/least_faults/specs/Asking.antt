@@ -3,11 +3,12 @@ use Rattle.std.specs.Prelude.{◌≡◌, ◌≢◌, ℕ, ◌+◌, ◌<◌, ◌�
 use Rattle.std.specs.List.{AllByRecursion, list_all, list_any}
 use Rattle.card_counter.specs.CounterState.{CounterState, bound_literal}
 use Rattle.des_net.specs.Network.{Net, IsNetwork}
-use Rattle.least_faults.specs.declared.answer.Best.{Best}
+use Rattle.answers.specs.declared.found.Best.{Best}
 use Rattle.least_faults.specs.declared.asking.Asked.{Asked}
 use Rattle.least_faults.specs.declared.asking.Asked.TheVariants.{Explained, Refuted, Spent}
 use Rattle.least_faults.specs.declared.parts.Parts.{Parts}
-use Rattle.least_faults.specs.Answers.{HaveLearntFresh, IsExplanation}
+use Rattle.answers.specs.Explanations.{IsExplanation}
+use Rattle.least_faults.specs.Answers.{HaveLearntFresh}
 use Rattle.least_faults.specs.Columns.{built_within, columns_for}
 use Rattle.least_faults.specs.Evidence.{IsPosed, is_final, IsRefutation}
 use Rattle.least_faults.specs.Growing.{AddsAxioms, KeepsQuestion}

@@ -2,8 +2,8 @@
 use Rattle.std.specs.Prelude.{◌<◌, ◌^◌, ℕ, List, Option}
 use Rattle.des_net.specs.Network.{Net}
 use Rattle.least_faults.specs.Answers.{IsAnswered}
-use Rattle.least_faults.specs.declared.answer.Best.{Best}
-use Rattle.least_faults.specs.declared.answer.Found.TheVariants.{Undecided}
+use Rattle.answers.specs.declared.found.Best.{Best}
+use Rattle.answers.specs.declared.found.Found.TheVariants.{Undecided}
 use Rattle.log_order.specs.Log.{Log}
 use Rattle.proof_ledger.specs.Book.{BookEntry}
 use Rattle.prop_core.specs.VariableNames.{Meaning}

@@ -10,7 +10,6 @@
 #![tactic(auto)]
 
 mod adding;
-mod answer;
 mod asking;
 mod axioms;
 mod bounding;
@@ -24,7 +23,7 @@ mod question;
 mod searching;
 
 pub use adding::{Reserved, add_draft, reserve_draft};
-pub use answer::{Best, Found};
+pub use answers::{Best, Found};
 pub use asking::assumptions;
 pub use axioms::push_axioms;
 pub use bounding::bound;

@@ -9,7 +9,7 @@ use Rattle.des_net.specs.Network.{Net}
 use Rattle.replay.specs.Matching.{name_on}
 use Rattle.replay.specs.declared.run.RunStep.{RunStep}
 use Rattle.replay.specs.declared.run.RunStep.TheVariants.{Happens, Dropped}
-use Rattle.least_faults.specs.declared.answer.Found.TheVariants.{Explained, Absent, Many, Undecided}
+use Rattle.answers.specs.declared.found.Found.TheVariants.{Explained, Absent, Many, Undecided}
 use Rattle.report.specs.Replies.{text_of_alarm, text_of_step, text_of_run}
 use Rattle.telling.specs.Lines.{line_with_number, line_with_two_numbers}
 use Rattle.report.specs.ReadBack.{HasAlarmNames, RepliesAreShort, RepliesFit}

@@ -9,7 +9,7 @@ use Rattle.des_net.specs.Building.{IsDraft}
 use Rattle.des_net.specs.Network.{Net}
 use Rattle.replay.specs.RunText.{is_reply_line, after_reply_line, after_header, fault_of_steps, run_fault_of_lines, steps_of}
 use Rattle.replay.specs.declared.run.RunStep.{RunStep}
-use Rattle.least_faults.specs.declared.answer.Found.TheVariants.{Explained, Absent, Many, Undecided}
+use Rattle.answers.specs.declared.found.Found.TheVariants.{Explained, Absent, Many, Undecided}
 use Rattle.report.specs.Replies.{text_of_run}
 use Rattle.report.specs.ReadBack.{IsPrintable, IsRunText, PrintedRunsReadBack, RepliesReadBack}
 use Rattle.report.proofs.DecimalWords.{decimal_bytes}

@@ -3,8 +3,8 @@ use Rattle.std.proofs.Common.{◌≡◌, List, [], ◌∷◌, Some, None, refl}
 use Rattle.std.specs.Prelude.{codes}
 use Rattle.std.specs.Fmt.{digits}
 use Rattle.des_net.specs.Models.{pump}
-use Rattle.fault_verdicts.specs.declared.answer.Verdict.TheVariants.{Certain, Excluded, Possible, Open}
-use Rattle.least_faults.specs.declared.answer.Found.TheVariants.{Explained, Absent, Many, Undecided}
+use Rattle.answers.specs.declared.verdict.Verdict.TheVariants.{Certain, Excluded, Possible, Open}
+use Rattle.answers.specs.declared.found.Found.TheVariants.{Explained, Absent, Many, Undecided}
 use Rattle.proof_ledger.specs.declared.checker.Checked.TheVariants.{Rejected}
 use Rattle.replay.specs.declared.run.RunStep.{RunStep}
 use Rattle.replay.specs.declared.run.RunStep.TheVariants.{Happens, Dropped}

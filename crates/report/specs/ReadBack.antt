@@ -8,7 +8,7 @@ use Rattle.replay.specs.Matching.{name_on}
 use Rattle.replay.specs.RunText.{first_run_fault, run_of}
 use Rattle.replay.specs.Traced.{word_of}
 use Rattle.replay.specs.declared.run.RunStep.{RunStep}
-use Rattle.least_faults.specs.declared.answer.Found.{Found}
+use Rattle.answers.specs.declared.found.Found.{Found}
 use Rattle.report.specs.Replies.{text_of_run, text_of_found, told_run}
 
 -- the alarms of a run have names

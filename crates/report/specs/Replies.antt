@@ -1,12 +1,12 @@
 -- The texts of replies. Each line ends with a line feed.
 use Rattle.std.specs.Prelude.{⊤, ℕ, ◌<◌, All, IfSome, List, [], ◌∷◌, ◌++◌, length, codes, decimal, flat_map, Option, Some, None, slice_index_or}
 use Rattle.des_net.specs.Network.{Net}
-use Rattle.cost_least.specs.declared.answer.Cheap.{Cheap}
-use Rattle.cost_least.specs.declared.answer.Cheap.TheVariants.{Found as Cheapest, Absent as NotPriced, Dear, Undecided as NotWeighed}
-use Rattle.cost_least.specs.declared.answer.Priced.{Priced}
-use Rattle.least_faults.specs.declared.answer.Best.{Best}
-use Rattle.least_faults.specs.declared.answer.Found.{Found}
-use Rattle.least_faults.specs.declared.answer.Found.TheVariants.{Explained, Absent, Many, Undecided}
+use Rattle.answers.specs.declared.cheap.Cheap.{Cheap}
+use Rattle.answers.specs.declared.cheap.Cheap.TheVariants.{Found as Cheapest, Absent as NotPriced, Dear, Undecided as NotWeighed}
+use Rattle.answers.specs.declared.cheap.Priced.{Priced}
+use Rattle.answers.specs.declared.found.Best.{Best}
+use Rattle.answers.specs.declared.found.Found.{Found}
+use Rattle.answers.specs.declared.found.Found.TheVariants.{Explained, Absent, Many, Undecided}
 use Rattle.proof_ledger.specs.declared.checker.Checked.{Checked}
 use Rattle.proof_ledger.specs.declared.checker.Checked.TheVariants.{Verified, Rejected}
 use Rattle.replay.specs.declared.replaying.Replayed.{Replayed}
@@ -17,8 +17,8 @@ use Rattle.replay.specs.Traced.{word_of}
 use Rattle.replay.specs.declared.tracing.Traced.{Traced}
 use Rattle.replay.specs.declared.tracing.Traced.TheVariants.{Ran, Stuck}
 use Rattle.telling.specs.Lines.{line_with_number, line_with_two_numbers}
-use Rattle.twin_test.specs.declared.answer.Twin.{Twin}
-use Rattle.twin_test.specs.declared.answer.Twin.TheVariants.{Ambiguous, Clear, Undecided as NotTested}
+use Rattle.answers.specs.declared.twin.Twin.{Twin}
+use Rattle.answers.specs.declared.twin.Twin.TheVariants.{Ambiguous, Clear, Undecided as NotTested}
 
 -- ---- lines
 

@@ -2,8 +2,8 @@
 use Rattle.std.specs.Prelude.{⊤, ℕ, ◌<◌, ◌≤◌, All, List, [], ◌++◌, length, codes, slice_index_or}
 use Rattle.des_net.specs.Building.{IsDraft}
 use Rattle.des_net.specs.Network.{Net}
-use Rattle.fault_verdicts.specs.declared.answer.Verdict.{Verdict}
-use Rattle.fault_verdicts.specs.declared.answer.Verdict.TheVariants.{Certain, Excluded, Possible, Open}
+use Rattle.answers.specs.declared.verdict.Verdict.{Verdict}
+use Rattle.answers.specs.declared.verdict.Verdict.TheVariants.{Certain, Excluded, Possible, Open}
 use Rattle.replay.specs.Traced.{word_of}
 use Rattle.replay.specs.declared.run.RunStep.{RunStep}
 use Rattle.report.specs.ReadBack.{IsPrintable}

@@ -6,7 +6,7 @@ ghost use Rattle.report.specs.Replies.{CheapEventsKnown, text_of_cheap, text_of_
 
 use crate::pieces::{push_numbered, push_placed, push_text, whole_or_nothing};
 use crate::run::push_run;
-use cost_least::{Cheap, Priced};
+use answers::{Cheap, Priced};
 use des_base::{Memory, push_decimal};
 use des_net::Network;
 

@@ -6,9 +6,9 @@ ghost use Rattle.report.specs.Replies.{EventsKnown, text_of_bounds, text_of_foun
 
 use crate::pieces::{push_numbered, push_placed, push_text, whole_or_nothing};
 use crate::run::push_run;
+use answers::{Best, Found};
 use des_base::{Memory, push_decimal};
 use des_net::Network;
-use least_faults::{Best, Found};
 
 /// Appends what was found of the least number of faults within n steps.
 ///

@@ -6,10 +6,10 @@ ghost use Rattle.report.specs.Replies.{TwinEventsKnown, text_of_both, text_of_ru
 
 use crate::pieces::{push_numbered, push_text, whole_or_nothing};
 use crate::run::push_run;
+use answers::Twin;
 use des_base::Memory;
 use des_net::Network;
 use replay::Run;
-use twin_test::Twin;
 
 /// Appends what a twin test within n steps came to.
 ///

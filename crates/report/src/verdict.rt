@@ -5,9 +5,9 @@ ghost use Rattle.report.specs.VerdictTexts.{RunKnown, named_event_line, text_of_
 
 use crate::pieces::{push_named, whole_or_nothing};
 use crate::run::{name_of, push_run};
+use answers::Verdict;
 use des_base::{EventId, Memory};
 use des_net::Network;
-use fault_verdicts::Verdict;
 
 /// Appends what all best explanations say of a fault event: `CERTAIN`, `EXCLUDED` or `POSSIBLE`, or `OPEN` where the budget was
 /// spent, and the name of the event. Where it is possible, the run that shows it follows.

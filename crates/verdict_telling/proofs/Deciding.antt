@@ -2,10 +2,10 @@
 use Rattle.std.proofs.Common.{◌≡◌, ◌∙◌, ◌<◌, ◌^◌, inl, inr, ℕ, Bool, true, false, List, [], ◌∷◌, ◌++◌, length, refl, sym, ap, subst, append-nil, append_assoc}
 use Rattle.std.specs.List.{list_any}
 use Rattle.fault_verdicts.specs.Judges.{AreJudged, IsEventJudged, Matter}
-use Rattle.fault_verdicts.specs.declared.answer.Verdict.{Verdict}
-use Rattle.fault_verdicts.specs.declared.answer.Verdict.TheVariants.{Certain, Excluded, Possible, Open}
+use Rattle.answers.specs.declared.verdict.Verdict.{Verdict}
+use Rattle.answers.specs.declared.verdict.Verdict.TheVariants.{Certain, Excluded, Possible, Open}
 use Rattle.least_faults.proofs.FreshCount.{fresh_below, over_front}
-use Rattle.least_faults.specs.declared.answer.Found.TheVariants.{Explained, Absent, Many, Undecided}
+use Rattle.answers.specs.declared.found.Found.TheVariants.{Explained, Absent, Many, Undecided}
 use Rattle.proof_ledger.specs.Book.{BookEntry, mark}
 use Rattle.proof_ledger.specs.Fresh.{AreFresh}
 use Rattle.verdict_telling.proofs.Growing.{judged_grows}

@@ -8,7 +8,7 @@ use Rattle.des_base.specs.Lists.{numbers_below}
 use Rattle.des_base.specs.Outside.{Took}
 use Rattle.des_net.specs.Network.{Net, is_fault}
 use Rattle.fault_verdicts.specs.Judges.{Matter}
-use Rattle.fault_verdicts.specs.declared.answer.Verdict.{Verdict}
+use Rattle.answers.specs.declared.verdict.Verdict.{Verdict}
 use Rattle.least_faults.proofs.Freshness.{fresh_none}
 use Rattle.least_faults.specs.Growing.{HasGrownWithin}
 use Rattle.proof_ledger.specs.Book.{BookEntry}

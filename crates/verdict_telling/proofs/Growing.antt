@@ -3,7 +3,7 @@ use Rattle.std.proofs.Common.{◌≡◌, ◌≤◌, ◌+◌, ◌*◌, ◌∙◌,
 use Rattle.std.proofs.Math.Nat.{suc-mul, mul-le-mul_right}
 use Rattle.des_net.specs.Network.{Net}
 use Rattle.fault_verdicts.specs.Judges.{IsEventJudged, Matter}
-use Rattle.fault_verdicts.specs.declared.answer.Verdict.{Verdict}
+use Rattle.answers.specs.declared.verdict.Verdict.{Verdict}
 use Rattle.least_faults.proofs.Closing.{grown_closed, grown_not}
 use Rattle.least_faults.proofs.Freshness.{fresh_both, fresh_mark}
 use Rattle.least_faults.specs.Growing.{HasGrownWithin}

@@ -2,7 +2,7 @@
 use Rattle.std.specs.Prelude.{◌≡◌, ◌⊎◌, ◌<◌, ◌||◌, ℕ, Bool, true, List, length, Option, None, Some, Result, Ok, Err}
 use Rattle.des_net.specs.Network.{is_fault}
 use Rattle.fault_verdicts.specs.Judges.{IsEventJudged}
-use Rattle.fault_verdicts.specs.declared.answer.Verdict.{Verdict}
+use Rattle.answers.specs.declared.verdict.Verdict.{Verdict}
 use Rattle.least_faults.specs.Growing.{HasGrownWithin}
 use Rattle.report.specs.VerdictTexts.{text_of_verdict}
 use Rattle.telling.specs.declared.each.Broken.{Broken}

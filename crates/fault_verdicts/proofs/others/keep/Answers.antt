@@ -1,6 +1,6 @@
 use Rattle.std.proofs.Common.{◌∙◌, inl, inr, ap, refl, sym}
 use Rattle.fault_verdicts.proofs.others.keep.Goals as goal
-use Rattle.fault_verdicts.specs.declared.answer.Verdict.TheVariants.{Possible}
+use Rattle.answers.specs.declared.verdict.Verdict.TheVariants.{Possible}
 
 pub returns-in_err-copy_of-in-Possible : goal.returns-in_err-copy_of-in-Possible
 returns-in_err-copy_of-in-Possible c = inl refl

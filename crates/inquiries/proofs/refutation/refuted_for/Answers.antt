@@ -1,6 +1,6 @@
 -- The refutation of the bound that was found.
 use Rattle.std.proofs.Common.{IfOk, sym, subst}
-use Rattle.least_faults.specs.declared.answer.Found.{Found}
+use Rattle.answers.specs.declared.found.Found.{Found}
 use Rattle.inquiries.specs.Refuted.{IsRefutedFor}
 use Rattle.inquiries.proofs.refutation.refuted_for.Goals as goal
 

@@ -1,7 +1,7 @@
 -- By what was found, and the verdicts behind it.
 use Rattle.std.proofs.Common.{◌∙◌, ap, refl}
 use Rattle.des_base.specs.Outside.{Rose}
-use Rattle.least_faults.specs.declared.answer.Found.TheVariants.{Absent, Many, Undecided}
+use Rattle.answers.specs.declared.found.Found.TheVariants.{Absent, Many, Undecided}
 use Rattle.step_encode.specs.Coded.{CodedSteps}
 use Rattle.telling.proofs.Taking.{rose_later}
 use Rattle.verdict_telling.proofs.Both.{broken_first, found_best, judged_behind, said_alone}

@@ -1,4 +1,4 @@
-// What is found of the least total: an answer, and a run with its total.
+// What is found of the least total cost, and a run with its total.
 use replay::Run;
 
 /// A run that explains an alarm log, and its total cost.

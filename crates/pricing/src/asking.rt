@@ -4,14 +4,14 @@ ghost use Rattle.event_costs.specs.Prices.{cost_at};
 ghost use Rattle.event_costs.specs.StoredCosts.{IsCost};
 ghost use Rattle.indep.specs.StoredTest.{IsTest};
 ghost use Rattle.inquiries.specs.Begun.{HasBegun};
-ghost use Rattle.inquiries.specs.LeastCost.{AnswersTable, IsPricedBy, IsWithinCosts, LeavesCosts};
+ghost use Rattle.pricing.specs.LeastCost.{AnswersTable, IsPricedBy, IsWithinCosts, LeavesCosts};
 ghost use Rattle.least_faults.specs.Building.{IsUnused};
 
-use crate::question::{Case, begin};
 use cost_least::{Cheap, cheapest};
 use des_base::{EventId, Memory};
 use event_costs::{CostTable, Costs};
 use indep::{Indep, Table};
+use inquiries::{Case, begin};
 use least_faults::Parts;
 use proof_ledger::Ledger;
 use sat_order::Order;

@@ -1,9 +1,9 @@
 -- What is found by the stored costs is found by those of the table.
 use Rattle.cost_least.specs.Searching.{HasAnsweredCosts}
 use Rattle.event_costs.specs.Prices.{cost_at}
-use Rattle.inquiries.specs.LeastCost.{IsPricedBy}
-use Rattle.inquiries.proofs.Weighing.{priced_by}
-use Rattle.inquiries.proofs.pricing.weigh_by_costs.Goals as goal
+use Rattle.pricing.specs.LeastCost.{IsPricedBy}
+use Rattle.pricing.proofs.Weighing.{priced_by}
+use Rattle.pricing.proofs.asking.weigh_by_costs.Goals as goal
 use Rattle.std.proofs.lemmas.Result.{IfOk-weaker as ok_weaker}
 
 pub returns : goal.returns

@@ -1,6 +1,6 @@
 -- Where memory is wanting the book is empty.
 use Rattle.std.proofs.Common.{ap, inl, inr}
-use Rattle.inquiries.proofs.pricing.least_cost.Goals as goal
+use Rattle.pricing.proofs.asking.least_cost.Goals as goal
 
 pub returns-in-Ok-clause-left : goal.returns-in-Ok-clause-left
 returns-in-Ok-clause-left c = inr (c.in-Ok.cheap, c.in-Ok.ensures)

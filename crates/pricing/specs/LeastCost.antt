@@ -3,7 +3,7 @@ use Rattle.std.specs.Prelude.{◌≡◌, ◌⊎◌, ◌<◌, ◌≤◌, ◌+◌,
 use Rattle.cost_least.specs.Answers.{IsCostAnswered}
 use Rattle.cost_least.specs.Costs.{cost_size}
 use Rattle.cost_least.specs.Weighed.{AreWeighedParts}
-use Rattle.cost_least.specs.declared.answer.Cheap.{Cheap}
+use Rattle.answers.specs.declared.cheap.Cheap.{Cheap}
 use Rattle.des_base.specs.declared.TheConstants.{MOST_STEPS}
 use Rattle.des_net.specs.Network.{Net, is_fault}
 use Rattle.des_net.specs.QuestionSize.{fault_event_count}

@@ -1,4 +1,4 @@
-// What is found of the least number of faults: an answer, and a run with its faults.
+// What is found of the least number of faults, and a run with its faults.
 use replay::Run;
 
 /// A run that explains an alarm log, and how many faults it has.

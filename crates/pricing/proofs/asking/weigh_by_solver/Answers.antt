@@ -1,9 +1,9 @@
 -- The question is built into an empty book, and then weighed.
 use Rattle.std.proofs.Common.{ℕ, IfOk, subst, sym}
 use Rattle.event_costs.specs.Prices.{cost_at}
-use Rattle.inquiries.specs.LeastCost.{IsPricedBy, IsWithinCosts}
-use Rattle.inquiries.proofs.Weighing.{within_question}
-use Rattle.inquiries.proofs.pricing.weigh_by_solver.Goals as goal
+use Rattle.pricing.specs.LeastCost.{IsPricedBy, IsWithinCosts}
+use Rattle.pricing.proofs.Weighing.{within_question}
+use Rattle.pricing.proofs.asking.weigh_by_solver.Goals as goal
 
 pub begin-requires-clause-limits : goal.begin-requires-clause-limits
 begin-requires-clause-limits g c = within_question c.args.case.now.net c.args.case.now.log c.args.steps c.requires.limits

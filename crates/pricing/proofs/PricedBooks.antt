@@ -6,9 +6,9 @@ use Rattle.std.proofs.lemmas.List.FromFn.{length-range_with_len}
 use Rattle.cost_least.proofs.Fitting.{first_few, inputs_below, inputs_counted}
 use Rattle.cost_least.proofs.SameCosts.{same_answered, same_parts}
 use Rattle.cost_least.specs.Weighed.{AreWeighedParts}
-use Rattle.cost_least.specs.declared.answer.Cheap.{Cheap}
-use Rattle.cost_least.specs.declared.answer.Cheap.TheVariants.{Undecided}
-use Rattle.cost_least.specs.declared.answer.Priced.{Priced}
+use Rattle.answers.specs.declared.cheap.Cheap.{Cheap}
+use Rattle.answers.specs.declared.cheap.Cheap.TheVariants.{Undecided}
+use Rattle.answers.specs.declared.cheap.Priced.{Priced}
 use Rattle.card_counter.specs.CounterState.{CounterState}
 use Rattle.des_base.proofs.Elements.{all_append, all_at, any_has, all_change}
 use Rattle.des_base.specs.Lists.{numbers_below}
@@ -29,7 +29,7 @@ use Rattle.step_encode.specs.Coded.{CodedSteps}
 use Rattle.weight_counter.proofs.Small.{scales_are_small}
 use Rattle.weight_counter.specs.Scales.{place_variable, scale_clauses}
 use Rattle.weight_counter.specs.declared.scale.Scale.{Scale}
-use Rattle.inquiries.specs.LeastCost.{CostAlike, HasCostQuestion, IsPricedBy, LeavesCosts, cost_variables}
+use Rattle.pricing.specs.LeastCost.{CostAlike, HasCostQuestion, IsPricedBy, LeavesCosts, cost_variables}
 use Rattle.proof_ledger.proofs.AxiomLists.{axioms_between}
 use Rattle.prop_core.proofs.Literals.{below_var, wider}
 use Rattle.run_clauses.proofs.Lists.{in_numbers}

@@ -5,7 +5,7 @@ use Rattle.cost_least.proofs.SameCosts.{fault_known, same_answered, same_parts}
 use Rattle.cost_least.specs.Answers.{CostAsked, IsCostAnswered}
 use Rattle.cost_least.specs.Searching.{HasAnsweredCosts}
 use Rattle.cost_least.specs.Weighed.{AreWeighedParts, KeepsCode}
-use Rattle.cost_least.specs.declared.answer.Cheap.{Cheap}
+use Rattle.answers.specs.declared.cheap.Cheap.{Cheap}
 use Rattle.des_net.specs.Network.{Net}
 use Rattle.event_costs.specs.Prices.{cost_at}
 use Rattle.least_faults.specs.Parts.{IsWithinLimits, built_of}
@@ -17,7 +17,7 @@ use Rattle.run_decode.specs.Decoding.{BelongTogether}
 use Rattle.run_decode.specs.QuestionAxioms.{BuiltQuestion, question_axioms, question_built}
 use Rattle.step_encode.specs.Coded.{CodedSteps}
 use Rattle.inquiries.specs.Begun.{HasBegun}
-use Rattle.inquiries.specs.LeastCost.{AnswersTable, CostAlike, HasCostQuestion, IsPricedBy, IsWithinCosts}
+use Rattle.pricing.specs.LeastCost.{AnswersTable, CostAlike, HasCostQuestion, IsPricedBy, IsWithinCosts}
 use Rattle.inquiries.proofs.Diagnosing.{question_begins}
 
 -- a question of costs is no smaller than the question

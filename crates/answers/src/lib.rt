@@ -1,0 +1,20 @@
+//! What is found of a question, as values.
+//!
+//! - [`Found`], of the least number of faults, with a run that is the [`Best`] that is known.
+//! - [`Verdict`], of a fault event.
+//! - [`Cheap`], of the least total cost, with a run that is [`Priced`].
+//! - [`Twin`], of two runs that look alike.
+//!
+//! The crate that searches for an answer says what it means and what shows it, and gives the type out as its own: `least_faults`, `fault_verdicts`,
+//! `cost_least` and `twin_test`. A text of an answer needs only its type.
+#![tactic(auto)]
+
+mod cheap;
+mod found;
+mod twin;
+mod verdict;
+
+pub use cheap::{Cheap, Priced};
+pub use found::{Best, Found};
+pub use twin::Twin;
+pub use verdict::Verdict;

@@ -1,0 +1,2 @@
+mod Weighing
+pub mod PricedBooks
