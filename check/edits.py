@@ -94,9 +94,10 @@ def changed_since(commit, below):
     paths += git("ls-files", "--others", "--exclude-standard", "--", "crates").split("\n")
     touched = {(parts[1], parts[2] in TRIED) for parts in [path.split("/") for path in paths] if len(parts) > 3 and parts[2] in PROVED + TRIED}
     # (those of crates.txt that are written otherwise now)
-    old = git("show", f"{commit}:crates.txt").split("\n")
+    old = {line.split("#")[0].strip() for line in git("show", f"{commit}:crates.txt").split("\n")}
     with open(os.path.join(TOP, "crates.txt"), encoding="utf-8") as it:
-        touched |= {(line.split(":")[0].split()[0], False) for line in it.read().split("\n") if ":" in line and line not in old}
+        now = {line.split("#")[0].strip() for line in it}
+    touched |= {(line.split(":")[0].split()[0], False) for line in now - old if ":" in line}
     changed = {crate for crate, is_edit in touched if not is_edit}
     while above := {crate for crate in below if crate not in changed and changed & set(below[crate])}:
         changed |= above

@@ -155,7 +155,7 @@ def unused(stands):
             if path.endswith((".rt", ".antt")) and "/out/" not in path:
                 with open(path, encoding="utf-8") as it:
                     text += it.read()
-        found += [(name, it) for it in used if not re.search(rf"\b{it}\b", text)]
+        found += [(name, it) for it in used if not re.search(rf"\bRattle\.{it}\b|\b{it}::", text)]
     return found
 
 
