@@ -11,7 +11,7 @@ import subprocess
 import sys
 
 EXAMPLES = os.path.join(os.path.dirname(os.path.dirname(os.path.abspath(__file__))), "examples")
-QUESTIONS = [("heating", 40, 1_000), ("propulsion", 60, 1_000), ("feeder", 60, 1_000), ("ring", 60, 1_000)]
+QUESTIONS = [("heating", 40, 1_000), ("propulsion", 60, 1_000), ("feeder", 60, 1_000), ("ring", 80, 1_000)]
 
 
 def asked(*words):
