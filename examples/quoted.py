@@ -7,7 +7,7 @@ read. The commands of a page are those of its blocks that are fenced as sh or in
 top of a copy of what the pages name; so no command finds a file that the page doesn't have written. What the commands of a block print must be the fenced
 blocks that follow it at once, one after the other, where a line `...` stands for whatever lines. So a timeline of a page is what tools/timeline.py prints.
 A reply that is printed by itself must have its exit status. Each other fenced block without a kind must stand in a file of FILES.
-Left out are blocks that prove or build; they begin with a command of KIT.
+Left out are blocks that prove or build; they begin with a command of KIT. A block that begins with one of OTHERS is run where that is installed.
 
 Status 0: every answer is the one that is quoted, 1: some isn't, 2: it could not begin.
 """
@@ -22,9 +22,11 @@ import tempfile
 TOP = os.path.dirname(os.path.dirname(os.path.abspath(__file__)))
 BUILT = "crates/diagnose_cli/out/diagnose_cli"
 COPIED = ["bench", "cases", "check", "docs", "examples", "tools"]
-PAGES = ["README.md", "CONTRIBUTING.md", "docs/tutorial.md", "docs/scripts.md", "examples/*/README.md"]
+PAGES = ["README.md", "CONTRIBUTING.md", "docs/tutorial.md", "docs/scripts.md", "docs/variables.md", "examples/*/README.md"]
 FILES = ["examples/*/*.des", "examples/*/*.csv", "examples/*/*.costs", "examples/*/*.run", "crates/*/must-fail/*.edit", "crates/*/more-edits/*.edit"]
 KIT = re.compile(r"(?:rt|cd crates|git|\.ci/run|python3 examples/quoted\.py)\b")
+OTHERS = ["cadical", "minisat", "parallel"]
+PATH = os.path.dirname(sys.executable) + ":" + os.defpath
 SECONDS = 600
 STATUSES = {"EXPLAINED": 0, "RAN": 0, "ACCEPTED": 0, "VERIFIED": 0, "des": 0, "p": 0, "c": 0, "units": None, "USAGE": 2, "LOAD": 3, "MODEL": 5, "LOG": 6, "RUN": 7,
             "CNF": 7, "LRAT": 7, "LONG": 8, "LARGE": 8, "NONE": 10, "UNDECIDED": 11, "MANY": 12, "REJECTED": 13, "NOTHING": 14, "CLEAR": 0, "CHEAPEST": 0, "DEAR": 12, "COST": 15, "NOFAULT": 16, "AMBIGUOUS": 17}
@@ -76,6 +78,12 @@ def questions(page):
     return asked, others
 
 
+def is_run(block):
+    """Whether the commands of a block are run here."""
+    first = block.split(None, 1)[0]
+    return not KIT.match(block) and (first not in OTHERS or shutil.which(first, path=PATH) is not None)
+
+
 def commands(block):
     """The commands of a block: lines, joined as long as a shell finds them unfinished."""
     whole, part = [], ""
@@ -104,7 +112,7 @@ def ran(lists, room):
     mark = "--- the end of a command:"
     script = f"after() {{ status=$?; printf '%s %d\\n' '{mark}' $status; return $status; }}\n"
     script += "".join(f"{command}after\n" for listed in lists for command in listed)
-    variables = {"PATH": os.path.dirname(sys.executable) + ":" + os.defpath, "LC_ALL": "C.UTF-8"}
+    variables = {"PATH": PATH, "LC_ALL": "C.UTF-8"}
     try:
         said = subprocess.run(["sh", "-c", script], cwd=room, env=variables, stdin=subprocess.DEVNULL, stdout=subprocess.PIPE, stderr=subprocess.STDOUT, timeout=SECONDS).stdout
     except subprocess.TimeoutExpired as cut:
@@ -132,7 +140,7 @@ def has_its_status(command, answer, status):
 def wrong_of(page, program, files):
     """How many commands a page has, and what is wrong with its answers and its other blocks."""
     asked, others = questions(read(os.path.join(TOP, page)))
-    asked = [(commands(block), "".join(answers)) for block, answers in asked if not KIT.match(block)]
+    asked = [(commands(block), "".join(answers)) for block, answers in asked if is_run(block)]
     wrong = []
     with tempfile.TemporaryDirectory(prefix="pages-") as room:
         prepared(program, room)
