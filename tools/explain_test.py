@@ -221,8 +221,9 @@ CASES = [
     (RING, "diagnose m.des l.csv 9 0", "UNDECIDED", ["budget of 0 was spent", "ten times the budget"]),
     (only("m.des", PLANT.replace("event fail fault", "event fail alarm DEAD fault")), "twin m.des fail 5 1 1000", "CLEAR 5", ["no run without fail"]),
 ]
-# Statuses for which nothing is printed, by a shell: the output can't be written, a word isn't UTF-8, the program is killed.
-QUIET = [("{explain} {program} show m.des > /dev/full", 4, "couldn't be written"), ("{explain} {program} show \"$(printf 'a\\377')\"", 1, "isn't UTF-8"), ("{explain} sh -c 'kill -9 $$'", 137, "")]
+# Calls by a shell, each with the status, what is printed and what the words have: the output or the words can't be written, a word isn't UTF-8, the program is killed, or isn't there.
+SHELL = [("{explain} {program} show m.des > /dev/full", 4, "", "couldn't be written"), ("{explain} {program} show \"$(printf 'a\\377')\"", 1, "", "isn't UTF-8"),
+         ("{explain} sh -c 'kill -9 $$'", 137, "", ""), ("{explain} {program} show 2> /dev/full", 2, "USAGE\n", ""), ("{explain} ./none show", 1, "", "./none: No such file")]
 
 
 def listed():
@@ -287,13 +288,14 @@ def wrong_of(program, folder, case):
     return [f"{call} ({reply}): {it}" for it in wrong] + (["  " + said] if wrong else [])
 
 
-def quiet(program, folder):
-    explain, wrong = f"{sys.executable} {os.path.join(TOOLS, 'explain.py')}", []
+def by_shell(program, folder):
+    explain_it, wrong = f"{sys.executable} {os.path.join(TOOLS, 'explain.py')}", []
     written(folder, {})
-    for line, status, wanted in QUIET:
-        made = subprocess.run(["sh", "-c", line.format(explain=explain, program=program)], cwd=folder, capture_output=True, check=False)
-        if made.returncode != status or wanted not in made.stderr.decode() or made.stdout or b"Traceback" in made.stderr:
-            wrong.append(f"{line}: status {made.returncode}, not {status}, or not the words {wanted!r}:\n  {made.stderr.decode()}")
+    for line, status, printed, wanted in SHELL:
+        made = subprocess.run(["sh", "-c", line.format(explain=explain_it, program=program)], cwd=folder, capture_output=True, check=False)
+        said = made.stderr.decode()
+        if (made.returncode, made.stdout.decode()) != (status, printed) or wanted not in said or "Traceback" in said:
+            wrong.append(f"{line}: status {made.returncode}, not {status}, or not {printed!r} and the words {wanted!r}:\n  {said}")
     return wrong
 
 
@@ -307,9 +309,9 @@ def main(words):
             wrong += wrong_of(program, folder, case)
             os.chdir(TOP)
     with tempfile.TemporaryDirectory() as folder:
-        wrong += quiet(program, folder)
+        wrong += by_shell(program, folder)
     wrong += [f"{it} has no case" for it in sorted(listed() - {kind_of(reply) for _, _, reply, _ in CASES})]
-    print("\n".join(wrong + [f"{len(CASES) + len(QUIET)} cases of explain.py, and {len(wrong)} things aren't as expected"]))
+    print("\n".join(wrong + [f"{len(CASES) + len(SHELL)} cases of explain.py, and {len(wrong)} things aren't as expected"]))
     return 1 if wrong else 0
 
 
