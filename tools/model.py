@@ -12,34 +12,23 @@ Status 0: the run or the names were printed, 1: the solver found nothing, or a t
 import csv
 import os
 import re
-import signal
 import sys
 
 sys.path.insert(0, os.path.dirname(os.path.abspath(__file__)))
-from timeline import model_of  # noqa: E402
+from texts import Wrong, called, log_of, read, sound_model  # noqa: E402
 
 # An "at most one" of so many is said without variables of its own.
 PAIRWISE = 4
 
 
-class Log:
-    """The alarms of a log with the labels that each may have, those that are doubtful, and the pairs."""
-
-    def __init__(self, path):
-        self.labels, self.doubtful, self.pairs = {}, [], []
-        try:
-            with open(path, encoding="utf-8-sig", newline="") as it:
-                rows = [row for row in csv.reader(it) if any(row)]
-            for row in rows:
-                if row[0] == "before":
-                    self.pairs.append((row[1], row[2]))
-                elif row[0] in ("alarm", "maybe"):
-                    self.labels[row[1]] = row[2].split("|")
-                    self.doubtful += [row[1]] if row[0] == "maybe" else []
-                else:
-                    raise ValueError
-        except (OSError, UnicodeDecodeError, IndexError, ValueError):
-            sys.exit(f"{path} isn't a log without a mistake; `diagnose` prints its first one")
+def sound_log(path):
+    """The log of a text that has no mistake, as far as this tool relies on it."""
+    try:
+        return log_of(path)
+    except OSError as fault:
+        raise Wrong(f"{path}: {fault.strerror}") from fault
+    except csv.Error as fault:
+        raise Wrong(f"{path} isn't a log without a mistake; `diagnose` prints its first one") from fault
 
 
 def moment(step):
@@ -49,10 +38,10 @@ def moment(step):
 class Variables:
     """What the variables of a formula stand for: the words of each in order, and where those stand that a run is read from."""
 
-    def __init__(self, lines, model, log, steps):
+    def __init__(self, model, log, steps):
         self.model, self.log, self.steps = model, log, range(1, steps + 1)
         self.words, self.happens, self.matches, self.done, self.false = [None], {}, {}, {}, {}
-        self.put_states(lines)
+        self.put_states()
         self.put_groups()
         self.put_events()
         self.put_log()
@@ -66,14 +55,8 @@ class Variables:
         for first in range(1, count if count > PAIRWISE else 0):
             self.put(words.format(first))
 
-    def put_states(self, lines):
-        states = {}
-        for words in lines:
-            if words[0] == "component":
-                states[words[1]] = own = []
-            elif words[0] == "state":
-                own.append(words[1])
-        for component, names in states.items():
+    def put_states(self):
+        for component, names in self.model.states.items():
             for after in range(len(self.steps) + 1):
                 for name in names:
                     self.put(f"{component} is {name} {moment(after)}")
@@ -81,9 +64,9 @@ class Variables:
 
     def put_groups(self):
         groups = []
-        for name, (parts, _, _) in self.model.events.items():
+        for name, event in self.model.events.items():
             for group in groups:
-                if all(parts.keys() & self.model.events[other][0].keys() for other in group):
+                if all(event.parts.keys() & self.model.events[other].parts.keys() for other in group):
                     group.append(name)
                     break
             else:
@@ -99,11 +82,11 @@ class Variables:
 
     def put_log(self):
         self.put("the log is asked for")
-        seen = [name for name, (_, label, _) in self.model.events.items() if label]
+        seen = [name for name, event in self.model.events.items() if event.label]
         for name in seen:
             self.put(f"no alarm stands for {name}")
         for alarm, labels in self.log.labels.items():
-            own = [name for name in seen if self.model.events[name][1] in labels]
+            own = [name for name in seen if self.model.events[name].label in labels]
             for name in own:
                 self.put(f"no alarm after {alarm} stands for {name}")
                 for step in self.steps:
@@ -118,7 +101,7 @@ class Variables:
 
     def put_counter(self, bound):
         """The counter of faults, if there is a bound, behind all others."""
-        counted = [name for name, (_, _, fault) in self.model.events.items() if fault]
+        counted = self.model.faults()
         inputs = len(counted) * len(self.steps) + len(self.false)
         for column in range(1, bound + 2):
             for first in range(1, inputs + 1):
@@ -133,9 +116,9 @@ def true_of(text):
     elif lines[0].strip() == "SAT":
         literals = " ".join(lines[1:]).split()
     else:
-        sys.exit("the solver gives no values: the formula is unsatisfiable, or this isn't what a solver writes")
+        raise Wrong("the solver gives no values: the formula is unsatisfiable, or this isn't what a solver writes")
     if not all(re.fullmatch(r"-?\d+", word) for word in literals):
-        sys.exit("a value isn't a number")
+        raise Wrong("a value isn't a number")
     return {int(word) for word in literals}
 
 
@@ -145,7 +128,7 @@ def in_order(alarms, pairs):
     while waiting:
         free = [it for it in waiting if not any(later == it and earlier in waiting for earlier, later in pairs)]
         if not free:
-            sys.exit("the pairs of the log have a cycle")
+            raise Wrong("the pairs of the log have a cycle")
         ordered.append(free[0])
         waiting.remove(free[0])
     return ordered
@@ -156,7 +139,7 @@ def run_of(variables, true):
     model, log, lines = variables.model, variables.log, []
     event_of = {(alarm, step): name for (alarm, name, step), var in variables.matches.items() if var in true}
     for step in [0, *variables.steps]:
-        lines += [name for name, (_, label, _) in model.events.items() if step and not label and variables.happens[name, step] in true]
+        lines += [name for name, event in model.events.items() if step and not event.label and variables.happens[name, step] in true]
         new = [alarm for alarm in log.labels if variables.done[alarm, step] in true and (step == 0 or variables.done[alarm, step - 1] not in true)]
         for alarm in in_order(new, log.pairs):
             lines.append(f"! {alarm}" if variables.false.get(alarm) in true else f"{event_of.get((alarm, step), '?')} {alarm}")
@@ -166,18 +149,16 @@ def run_of(variables, true):
 def main(words):
     if len(words) not in (4, 5) or (len(words) == 5) != (words[3] == "--names") or not words[2].isdigit():
         sys.exit(__doc__)
-    lines, model = model_of(words[0])
-    variables = Variables(lines, model, Log(words[1]), int(words[2]))
+    variables = Variables(sound_model(words[0]), sound_log(words[1]), int(words[2]))
     if words[3] == "--names":
         if words[4] != "any":
             variables.put_counter(int(words[4]))
         print("\n".join(f"{number} {name}" for number, name in enumerate(variables.words) if number))
-        return
-    with sys.stdin if words[3] == "-" else open(words[3], encoding="utf-8") as it:
-        run = run_of(variables, true_of(it.read()))
+        return 0
+    run = run_of(variables, true_of(read(words[3])))
     print("\n".join([f"run {len(run)}", *run]))
+    return 0
 
 
 if __name__ == "__main__":
-    signal.signal(signal.SIGPIPE, signal.SIG_DFL)
-    main(sys.argv[1:])
+    called(main)
