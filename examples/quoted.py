@@ -22,8 +22,8 @@ import tempfile
 TOP = os.path.dirname(os.path.dirname(os.path.abspath(__file__)))
 BUILT = "crates/diagnose_cli/out/diagnose_cli"
 COPIED = ["bench", "cases", "check", "docs", "examples", "tools"]
-PAGES = ["README.md", "CONTRIBUTING.md", *(f"docs/{it}.md" for it in ["tutorial", "scripts", "tools", "variables"]), "examples/*/README.md"]
-FILES = ["examples/*/*.des", "examples/*/*.csv", "examples/*/*.costs", "examples/*/*.run", "crates/*/must-fail/*.edit", "crates/*/more-edits/*.edit"]
+PAGES = ["README.md", "CONTRIBUTING.md", *(f"docs/{it}.md" for it in ["tutorial", "scripts", "blocks", "tools", "variables"]), "examples/*/README.md"]
+FILES = ["examples/*/*.des", "examples/*/*.blocks", "examples/*/*.csv", "examples/*/*.costs", "examples/*/*.run", "crates/*/must-fail/*.edit", "crates/*/more-edits/*.edit"]
 KIT = re.compile(r"(?:rt|\(?cd crates|git|\.ci/run|python3 examples/quoted\.py)\b")
 OTHERS = ["cadical", "minisat", "parallel"]
 PATH = os.path.dirname(sys.executable) + ":" + os.defpath
