@@ -5,8 +5,8 @@
 PROGRAM is the compiled program, which `rt run` and `rt ci` leave as crates/diagnose_cli/out/diagnose_cli. A case is a folder with the
 files of a plant and answers.txt; with no FOLDER all in cases/ are run. answers.txt is a transcript: a line `$ WORDS`, what the
 program prints on these words (as a shell reads them, redirections too), a line `status N`, and an empty line; lines before a `$` are
-comments. The commands run one after another in a copy of the folder, where make.py, if there is one, has made further files. So a
-command may read what an earlier one wrote by a redirection, and nothing else is written there. A line `...` stands for
+comments. The commands run one after another in a copy of the folder, where make.py, if there is one, has made further files; its variable TOP is the
+top of the repository. So a command may read what an earlier one wrote by a redirection, and nothing else is written there. A line `...` stands for
 whatever lines the program prints there. With --tell the transcript of what the program answers is printed, and nothing is compared.
 
 Status 0: every answer is the one that is written down, 1: some isn't, 2: it could not begin.
@@ -80,7 +80,7 @@ def prepared(folder, room):
     at = os.path.join(room, "case")
     shutil.copytree(folder, at)
     if os.path.isfile(os.path.join(at, "make.py")):
-        made = subprocess.run([sys.executable, "make.py"], cwd=at)
+        made = subprocess.run([sys.executable, "make.py"], cwd=at, env={**os.environ, "TOP": os.path.dirname(HERE)})
         if made.returncode:
             raise Faulty(f"make.py ended with status {made.returncode}")
     return at
