@@ -1,6 +1,6 @@
 """Tries what tools/blocks.py writes of small texts, and what it says of texts with a mistake.
 
-    python3 check/try_blocks.py
+    python3 tools/blocks_test.py
 
 Status 0: all is as it should be, 1: something isn't.
 """

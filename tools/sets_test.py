@@ -1,6 +1,6 @@
 """Tries which sets of faults tools/sets.py lists.
 
-    python3 check/try_sets.py PROGRAM
+    python3 tools/sets_test.py PROGRAM
 
 PROGRAM is the compiled program, crates/diagnose_cli/out/diagnose_cli. The answers on the full adder and the polybox are those that were published (Reiter 1987; de Kleer and Williams 1987), the others are short enough to be found by hand.
 
