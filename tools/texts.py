@@ -57,10 +57,13 @@ def rows_of(path):
     rows, end = [], 0
     with open(path, encoding="utf-8-sig", errors="surrogateescape", newline="") as it:
         reader = csv.reader(it)
-        for fields in reader:
-            if fields:
-                rows.append(Row(end + 1, fields))
-            end = reader.line_num
+        try:
+            for fields in reader:
+                if fields:
+                    rows.append(Row(end + 1, fields))
+                end = reader.line_num
+        except csv.Error as fault:
+            raise ValueError(str(fault)) from fault
     return rows
 
 
