@@ -25,7 +25,7 @@ from texts import called, plural, read, rows_of, shown  # noqa: E402
 
 CSS = os.path.join(os.path.dirname(os.path.abspath(__file__)), "report.css")
 # How wide a run is drawn for a wide and a narrow screen, how high a picture may be on paper, and how much of what is long is shown.
-WIDE, NARROW, TALL, DRAWN, LONG, SHOWN, FOLDED = 760, 350, 520, 12, 600, 300, 12
+WIDE, NARROW, TALL, DRAWN, LONG, PRINTED, SHOWN, FOLDED = 760, 350, 520, 12, 600, 20, 300, 12
 MARKS = {"certain": "\u25cf", "possible": "\u25d0", "open": "?", "excluded": "\u25cb"}
 MEANS = {"certain": "every explanation with so few faults has it", "possible": "some of them have it and some don't", "open": "the budget or the time was spent before it was known",
          "excluded": "none of them has it"}
@@ -86,7 +86,7 @@ def ticked(words):
 
 
 def fold(summary, inside, name="", kind=""):
-    """A part that one click opens. On paper it is open, unless it is of the kind `less`, which says again what is said elsewhere."""
+    """A part that one click opens. On paper it is open, unless it is of the kind `less`, which says again what is said elsewhere; of the kind `long` the pictures are left out there."""
     marks = f' id="{name}"' * bool(name) + f' class="{kind}"' * bool(kind)
     return f"<details{marks}><summary>{escape(summary)}</summary>\n{inside}\n</details>"
 
@@ -145,7 +145,7 @@ class Page:
         return "\n".join(lines + [fold("The exact command and its reply", "\n".join(calls), kind="less")])
 
     def near(self):
-        """The lines about the one that is wrong, or the rows of a log."""
+        """The lines around the one that is wrong, or the rows of a log."""
         kind, wrong = self.found.main.kind, self.found.main.numbers[0]
         unit, name, path = {"LOG": ("Row", "log", self.found.log_path), "MODEL": ("Line", "model", self.found.model_path), "COST": ("Line", "costs", self.found.costs_path)}[kind]
         try:
@@ -153,7 +153,7 @@ class Page:
         except (OSError, ValueError):
             return ""
         near = [(at, row) for at, row in enumerate(rows, 1) if abs(at - wrong) < 4]
-        return table(f"The {unit.lower()}s of the {name} about the mistake.", [unit, "What it says", "Mark"],
+        return table(f"The {unit.lower()}s of the {name} around the mistake.", [unit, "What it says", "Mark"],
                      [("", [str(at), f"<code>{escape(row[:200])}</code>", '<span class="wrong">\u2716 the mistake</span>' * (at == wrong)]) for at, row in near])
 
     # Runs.
@@ -166,12 +166,12 @@ class Page:
         kind = {"CHEAPEST": " with the least cost", "EXPLAINED": " with the fewest faults"}.get(drawn.kind, "")
         lines = ["<h2>What may have happened</h2>",
                  f"<p>A run of the plant that explains the log{kind}, in {plural(steps, 'parallel step')}. It has {escape(self.words.named(drawn.run))}.</p>",
-                 self.pictures(drawn.run, "run", "The run that was found"),
-                 f'<p class="small">{timeline.KEY} Events that move no common component may share a step. When things happened within the run isn\'t certain, even where the fault is.</p>']
+                 self.pictures(drawn.run, "run", "The run that was found", f'<p class="small">{timeline.KEY} Events that move no common component may share a step. '
+                               "When things happened within the run isn't certain, even where the fault is.</p>\n")]
         if others:
             lines.append("<h3>Other runs with the fewest faults</h3>")
-            few = f"{sentence(word(len(others)))[:-1]} other{'s have' if len(others) > 1 else ' has'}"
-            lines.append(f"<p>{few} as few faults{' as can be' * self.is_least}. Open one to see it.</p>")
+            few = f"{sentence(word(len(others)))[:-1]} {'more runs' if len(others) > 1 else 'more run'} with as few faults{' as can be' * self.is_least}"
+            lines.append(f"<p>{few} {'were' if len(others) > 1 else 'was'} found, to show what is possible. There may be others.</p>")
         return "\n".join(lines + [self.other(place, run, events) for place, (run, events) in enumerate(others, 1)])
 
     def other(self, place, run, events):
@@ -181,10 +181,10 @@ class Page:
         title = f"Another run {' and '.join(by)}" if events else "The run with the fewest faults, whatever they cost"
         inside = f"<p>It has {escape(self.words.named(run))}.</p>\n"
         inside += self.pictures(run, f"other-{place}", title) if place <= DRAWN else "<p>Not drawn, since there are so many.</p>" + pre("\n".join(run[:SHOWN]))
-        return fold(title, inside, f"other-{place}")
+        return fold(title, inside, f"other-{place}", "long" * (len(run) > PRINTED))
 
-    def pictures(self, lines, name, what):
-        """A run as pictures that each fit on a page, or as a list if it is very long."""
+    def pictures(self, lines, name, what, key=""):
+        """A run as pictures that each fit on a page, with their key, or as a list if it is very long."""
         run = self.found.read_run(lines)
         if not run.items:
             return f"<p>{escape(what)} has no events: the plant need not do anything.</p>"
@@ -193,7 +193,7 @@ class Page:
         if len(run.items) > LONG:
             return f"<p>{escape(what)} has {len(run.items):,} lines, too many to draw.</p>" + fold("The run as a list, a line for each step", listed)
         drawn = [region(f"\n{self.parts_of(run, steps, f'{name}-{kind}', what, wide)}\n", f"{what}, as a picture", kind) + "\n" for kind, wide in (("broad", WIDE), ("narrow", NARROW))]
-        return "".join(drawn) + fold("The run as a list, a line for each step", listed, kind="less")
+        return "".join(drawn) + key + fold("The run as a list, a line for each step", listed, kind="less")
 
     def parts_of(self, run, steps, name, what, wide):
         """The pictures of a run that are about so wide. Their bands are as many as fit on a page."""
@@ -352,11 +352,14 @@ class Page:
 
     def about(self):
         found = self.found
-        rows = [("", [kind, f"<code>{escape(shown(path))}</code>", f"{it[1]:,}" if it else "", f'<code class="digest">{it[0]}</code>' if it else "not read"]) for (kind, path), it in zip(found.files, found.digests)]
+        rows = []
+        for (kind, path), it in zip(found.files, found.digests):
+            known = f'<br><code class="digest">{it[0]}</code>' if it else "<br>not read"
+            rows.append(("", [kind, f"<code>{escape(shown(path))}</code>{known}", f"{it[1]:,}" if it else ""]))
         made = datetime.datetime.now(datetime.timezone.utc).strftime("%Y-%m-%d %H:%M UTC")
-        return "\n".join(["<h2>What this page is about</h2>", table("The program and the files that it read.", ["What", "File", "Bytes", "SHA-256"], rows),
+        return "\n".join(["<h2>What this page is about</h2>", table("The program and the files that it read.", ["What", "File, and its SHA-256", "Bytes"], rows),
                           f'<p class="small">At most {escape(found.n)} parallel steps, a budget of {escape(found.budget)}, {found.seconds:g} seconds for each call. Made by tools/report.py at {made}. '
-                          "The program is proved; this page, the pictures and the words on it aren't. Nobody can prove that the model describes the plant.</p>"])
+                          "The program that the gate builds is proved; this page, the pictures and the words on it aren't. Nobody can prove that the model describes the plant.</p>"])
 
 
 def main(words):

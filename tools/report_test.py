@@ -114,6 +114,8 @@ class Words(HTMLParser):
             self.level = level
         if tag in BLOCKS:
             self.lines.append("")
+        if tag == "br":
+            self.lines[-1] += " "
         if tag not in VOID:
             self.open.append((tag, given.get("class")))
 
@@ -177,7 +179,7 @@ def made(program, call, folder):
     page = Words(done.stdout.decode())
     with open(program, "rb") as it:
         known, size = hashlib.sha256(it.read()).hexdigest(), f"{os.path.getsize(program):,}"
-    text = page.text().replace(known, "..").replace(program, "PROGRAM").replace(f"| {size} |", "| .. |").replace(folder, "FOLDER")
+    text = page.text().replace(known, "..").replace(program, "PROGRAM").replace(f".. | {size}\n", ".. | ..\n").replace(folder, "FOLDER")
     text = re.sub(r"stopped after \d+ seconds$", "stopped after .. seconds", re.sub(r"(status \d+), [\d.]+ seconds", r"\1, .. seconds", text), flags=re.M)
     text = re.sub(r"\d{4}-\d\d-\d\d [\d:]{5} UTC", "..", text)
     return text, page.faults() + done.stderr.decode(errors="replace").splitlines()[-1:], done.returncode
