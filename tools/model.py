@@ -9,7 +9,6 @@ counts as false. With --names each variable of `cnf MODEL LOG N K` has a line, w
 
 Status 0: the run or the names were printed, 1: the solver found nothing, or a text can't be read.
 """
-import csv
 import os
 import re
 import sys
@@ -27,7 +26,7 @@ def sound_log(path):
         return log_of(path)
     except OSError as fault:
         raise Wrong(f"{path}: {fault.strerror}") from fault
-    except csv.Error as fault:
+    except ValueError as fault:
         raise Wrong(f"{path} isn't a log without a mistake; `diagnose` prints its first one") from fault
 
 
