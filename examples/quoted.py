@@ -7,7 +7,7 @@ read. The commands of a page are those of its blocks that are fenced as sh or in
 top of a copy of what the pages name; so no command finds a file that the page doesn't have written. What the commands of a block print must be the fenced
 blocks that follow it at once, one after the other, where a line `...` stands for whatever lines. So a timeline of a page is what tools/timeline.py prints.
 A reply that is printed by itself must have its exit status. Each other fenced block without a kind must stand in a file of FILES.
-Left out are blocks that prove or build; they begin with a command of KIT. A block that begins with one of OTHERS is run where that is installed.
+Left out are blocks that prove or build; they begin with a command of KIT. A block that calls one of OTHERS is run where that is installed and its help has these words.
 
 Status 0: every answer is the one that is quoted, 1: some isn't, 2: it could not begin.
 """
@@ -25,7 +25,7 @@ COPIED = ["bench", "cases", "check", "docs", "examples", "tools"]
 PAGES = ["README.md", "CONTRIBUTING.md", *(f"docs/{it}.md" for it in ["tutorial", "scripts", "blocks", "tools", "variables"]), "examples/*/README.md"]
 FILES = ["examples/*/*.des", "examples/*/*.blocks", "examples/*/*.csv", "examples/*/*.costs", "examples/*/*.run", "crates/*/must-fail/*.edit", "crates/*/more-edits/*.edit"]
 KIT = re.compile(r"(?:rt|\(?cd crates|git|\.ci/run|python3 examples/quoted\.py)\b")
-OTHERS = ["cadical", "minisat", "parallel"]
+OTHERS = {"cadical": "--lrat", "minisat": "", "parallel": ""}
 PATH = os.path.dirname(sys.executable) + ":" + os.defpath
 SECONDS = 600
 STATUSES = {"EXPLAINED": 0, "RAN": 0, "ACCEPTED": 0, "VERIFIED": 0, "des": 0, "p": 0, "c": 0, "units": None, "USAGE": 2, "LOAD": 3, "MODEL": 5, "LOG": 6, "RUN": 7,
@@ -78,10 +78,18 @@ def questions(page):
     return asked, others
 
 
+def is_there(program):
+    """Whether a program of OTHERS can be called, and is one that will do."""
+    if shutil.which(program, path=PATH) is None:
+        return False
+    said = subprocess.run([program, "--help"], env={"PATH": PATH}, stdin=subprocess.DEVNULL, stdout=subprocess.PIPE, stderr=subprocess.STDOUT).stdout.decode()
+    return OTHERS[program] in said
+
+
 def is_run(block):
     """Whether the commands of a block are run here."""
-    first = block.split(None, 1)[0]
-    return not KIT.match(block) and (first not in OTHERS or shutil.which(first, path=PATH) is not None)
+    called = set(re.findall(r"(?<![\w./-])[a-z]+(?= )", block))
+    return not KIT.match(block) and all(map(is_there, called & OTHERS.keys()))
 
 
 def commands(block):
@@ -112,7 +120,7 @@ def ran(lists, room):
     mark = "--- the end of a command:"
     script = f"after() {{ status=$?; printf '%s %d\\n' '{mark}' $status; return $status; }}\n"
     script += "".join(f"{command}after\n" for listed in lists for command in listed)
-    variables = {"PATH": PATH, "LC_ALL": "C.UTF-8"}
+    variables = {"PATH": PATH, "LC_ALL": "C.UTF-8", "HOME": room}
     try:
         said = subprocess.run(["sh", "-c", script], cwd=room, env=variables, stdin=subprocess.DEVNULL, stdout=subprocess.PIPE, stderr=subprocess.STDOUT, timeout=SECONDS).stdout
     except subprocess.TimeoutExpired as cut:
