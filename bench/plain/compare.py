@@ -56,7 +56,7 @@ class Question:
     def __init__(self, program, plant, draw):
         self.program, self.plant, self.network, self.draw = program, plant, plant.network, draw
         self.events = walk(self.network, draw.randint(1, 8), draw.choice([0, 1, 1, 2, 2, 3]), draw)
-        self.rows = disturbed(log_of(self.events, draw.choice(["whole", "whole", "device", "free"])), plant.labels, draw)
+        self.rows = disturbed(log_of(self.events, draw.choice(["whole", "whole", "device", "blocks", "free"])), plant.labels, draw)
         self.log = Log("\n".join(self.rows))
 
     def ask(self, command, *words, **texts):

@@ -1,4 +1,15 @@
-"""Draws runs of a plant by chance, and logs of them, some of which are disturbed."""
+"""Draws runs of a plant by chance, and logs of them.
+
+    python3 bench/plain/walks.py MODEL ALARMS FAULTS SEED FOLDER
+
+writes such a run into FOLDER, simulated.run, and its logs: whole.csv (each alarm before the next), device.csv (alarms keep their order where their events touch a component in common),
+blocks.csv (all alarms of a parallel step before all of the next one with alarms, as between two ticks of a clock) and free.csv (no order). It prints how many parallel steps, alarms and faults the run has.
+"""
+import os
+import random
+import sys
+
+from network import Network
 
 
 def walk(network, alarms, faults, draw):
@@ -17,15 +28,6 @@ def walk(network, alarms, faults, draw):
     return events
 
 
-def width(events):
-    """How many parallel steps the events take in this order."""
-    number, touched = 0, frozenset()
-    for event in events:
-        meets = not number or touched & event.touched
-        number, touched = (number + 1, event.touched) if meets else (number, touched | event.touched)
-    return number
-
-
 def with_alarms(events):
     """The events, each with the name of its alarm or None."""
     found, alarms = [], 0
@@ -35,13 +37,31 @@ def with_alarms(events):
     return found
 
 
+def steps_of(events):
+    """The number of the parallel step of each event."""
+    found, touched = [], frozenset()
+    for event in events:
+        meets = not found or touched & event.touched
+        found.append((found[-1] if found else 0) + (1 if meets else 0))
+        touched = event.touched if meets else touched | event.touched
+    return found
+
+
+def width(events):
+    """How many parallel steps the events take in this order."""
+    return steps_of(events)[-1] if events else 0
+
+
 def log_of(events, order):
-    """A log of the run: with the `whole` order, with that of alarms whose events touch a component in common (`device`), or with none (`free`)."""
-    seen = [(f"a{place}", event) for place, event in enumerate((it for it in events if it.label), 1)]
-    rows = [f"alarm,{name},{event.label}" for name, event in seen]
-    for place, (name, event) in enumerate(seen):
-        before = seen[:place] if order == "device" else seen[place - 1:place] if order == "whole" and place else []
-        rows += [f"before,{earlier},{name}" for earlier, one in before if order == "whole" or one.touched & event.touched]
+    """A log of the run, in an order of those above."""
+    seen = [(f"a{place}", event, step) for place, (event, step) in enumerate((it for it in zip(events, steps_of(events)) if it[0].label), 1)]
+    rows = [f"alarm,{name},{event.label}" for name, event, _ in seen]
+    ticks = sorted({step for _, _, step in seen})
+    last_tick = dict(zip(ticks[1:], ticks))
+    for place, (name, event, step) in enumerate(seen):
+        before = {"whole": seen[max(place - 1, 0):place], "device": [it for it in seen[:place] if it[1].touched & event.touched],
+                  "blocks": [it for it in seen[:place] if it[2] == last_tick.get(step)], "free": []}[order]
+        rows += [f"before,{earlier},{name}" for earlier, _, _ in before]
     return rows
 
 
@@ -58,3 +78,27 @@ def disturbed(rows, labels, draw):
         return [row for row in rows if not row.startswith("before") or draw.random() < 0.7]
     changed = {"nothing": rows[place], "doubt": f"maybe,{name},{label}", "further": f"{word},{name},{label}|{draw.choice(labels)}", "other": f"{word},{name},{draw.choice(labels)}"}[change]
     return rows[:place] + [changed] + rows[place + 1:]
+
+
+def run_text(events):
+    """The run as a text that `replay` reads."""
+    lines = [name + (f" {alarm}" if alarm else "") for name, alarm in with_alarms(events)]
+    return "\n".join([f"run {len(lines)}"] + lines) + "\n"
+
+
+def main(words):
+    with open(words[0], encoding="utf-8") as it:
+        network = Network(it.read())
+    alarms, faults, seed = map(int, words[1:4])
+    events = walk(network, alarms, faults, random.Random(seed))
+    os.makedirs(words[4], exist_ok=True)
+    texts = {"simulated.run": run_text(events)}
+    texts.update((f"{order}.csv", "".join(f"{row}\n" for row in log_of(events, order))) for order in ("whole", "device", "blocks", "free"))
+    for name, text in texts.items():
+        with open(os.path.join(words[4], name), "w", encoding="ascii") as it:
+            it.write(text)
+    print(f"{width(events)} steps, {sum(it.label is not None for it in events)} alarms, {sum(it.is_fault for it in events)} faults")
+
+
+if __name__ == "__main__":
+    main(sys.argv[1:])
