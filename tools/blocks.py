@@ -121,6 +121,7 @@ def counted_out(node, values):
 
 
 def value_of(name, values):
+    """The word that a name stands for."""
     if name not in values:
         raise Mistake(f"nothing here has the name {name}; known are: {', '.join(values) or 'none'}")
     return values[name]
@@ -146,6 +147,8 @@ def filled(word, values):
 
 
 class Component:
+    """A component with its place in the text, its states, each with whether it is initial, its transitions, and the actions that they have."""
+
     def __init__(self, place):
         self.place, self.states, self.moves, self.actions = place, {}, {}, set()
 
@@ -247,16 +250,19 @@ class Model:
 
 
 def must_be_name(word):
+    """Refuses a word that isn't a name of a model."""
     if not NAME.fullmatch(word):
         raise Mistake(f"{word or 'an empty word'} isn't a name (1 to 64 letters, digits, _ and -)")
 
 
 def once(key, known, kind, name=None):
+    """Refuses what is there already."""
     if key in known:
         raise Mistake(f"{kind} {name or key} is there already")
 
 
 def within(kind, items):
+    """Refuses more than a model may have."""
     if len(items) > LIMITS[kind]:
         raise Mistake(f"a model has at most {LIMITS[kind]:,} {kind}")
 
@@ -277,6 +283,7 @@ class Writer:
                 raise Wrong(place, mistake) from None
 
     def write_line(self, line, values, place, depth):
+        """Writes a line, or does what it says."""
         first, known = line.words[0], {**self.values, **values}
         if first == "let":
             must_be_value(line.words[1])
@@ -312,6 +319,7 @@ class Writer:
 
 
 def must_be_value(word):
+    """Refuses a word that can't be the name of a value."""
     if not VALUE.fullmatch(word):
         raise Mistake(f"{word} can't be the name of a value: it has letters, digits and _, and begins with no digit")
 

@@ -96,23 +96,27 @@ class Asked:
                 it.write(text)
 
     def compare(self, what, said, wanted):
+        """Counts a question, and prints an answer that differs."""
         self.count += 1
         if said != wanted:
             self.wrong += 1
             print(f"{what}: the program says {said}, and by trial it is {wanted}")
 
     def verdicts(self, what, faults, found):
+        """Asks what is certain, possible and excluded."""
         ran = subprocess.run([self.program, "verdicts", *self.paths, str(STEPS), BUDGET], stdout=subprocess.PIPE, text=True)
         words = ("EXPLAINED", "NONE", "CERTAIN", "POSSIBLE", "EXCLUDED", "OPEN", "UNDECIDED")
         self.compare(what, [line for line in ran.stdout.split("\n") if line.startswith(words)], wanted_lines(faults, found))
 
     def all_sets(self, what, wanted):
+        """Asks for all minimal sets."""
         found = set()
         listed.sets(listed.Question(self.program, *self.paths, str(STEPS), BUDGET), found, 9)
         self.compare(what, sorted(it for it in found if not any(listed.is_part(other, it) for other in found)), wanted)
 
 
 def text_of(name, values=()):
+    """The model of a circuit."""
     with open(os.path.join(TOP, "examples", "circuit", f"{name}.blocks"), encoding="utf-8") as it:
         return model_of(it.read(), values)
 

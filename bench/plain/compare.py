@@ -35,6 +35,8 @@ MODELS = ["tutorial/model", "station/model", "heating/model", "heating/pressure"
 
 
 class Plant:
+    """A plant with its name, the text of its model, and its labels."""
+
     def __init__(self, name, text):
         self.name, self.text, self.network = name, text, Network(text)
         self.labels = sorted({event.label for event in self.network.events if event.label})
@@ -46,6 +48,7 @@ def read(name):
 
 
 def plants():
+    """The plants that questions are drawn from."""
     found = [Plant(f"{name} {' '.join(values.values())}", model_of(read(f"{name}.blocks"), values.items())) for name, values in BLOCKS]
     return found + [Plant(name, read(f"{name}.des")) for name in MODELS]
 
@@ -94,6 +97,7 @@ def few_steps(it):
 
 
 def least_is(it, best, steps):
+    """Whether `diagnose` says what the plain search found, and prints a run that explains the log with as many faults."""
     reply, status = it.ask("diagnose", "MODEL", "LOG", steps, BUDGET)
     if best is None:
         return (reply, status) == (f"NONE {steps}\n", 10), reply, best

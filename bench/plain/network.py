@@ -37,6 +37,7 @@ class Network:
 
     @staticmethod
     def event_of(words, places, moves):
+        """The event of a line."""
         at = words.index(":")
         marks = words[2:at]
         label = marks[1] if marks[:1] == ["alarm"] else None
