@@ -2,10 +2,10 @@
 
     python3 bench/plain/circuits.py PROGRAM
 
-asks the program about c17 (all 32 inputs with all 4 outputs, and sets of two and three patterns that are drawn by chance) and about the full adder (all 8 inputs with all 4 outputs, and all minimal
-diagnoses by tools/sets.py), with the models of examples/circuit, and prints each answer that differs. PROGRAM is the compiled program.
+asks the program about c17 (all 32 inputs with all 4 outputs, and sets of two and three patterns that are drawn by chance), and by tools/sets.py for all minimal diagnoses of the full adder (all 8 inputs
+with all 4 outputs) and of the polybox (9 pairs of numbers), with the models of examples/circuit, and prints each answer that differs. PROGRAM is the compiled program.
 
-On 30 November 2026 it asked 176 questions, and none of the answers differed.
+On 30 November 2026 it asked 185 questions, and none of the answers differed.
 
 Status 0: no answer differs, 1: some does.
 """
@@ -27,6 +27,7 @@ C17 = (["1", "2", "3", "6", "7"], ["22", "23"], [("g10", "nand", "1", "3", "10")
                                                ("g22", "nand", "10", "16", "22"), ("g23", "nand", "16", "19", "23")])
 ADDER = (["A", "B", "C"], ["SUM", "CARRY"], [("x1", "xor", "A", "B", "half"), ("x2", "xor", "half", "C", "SUM"), ("a1", "and", "A", "B", "both"), ("a2", "and", "half", "C", "carried"),
                                              ("o1", "or", "both", "carried", "CARRY")])
+MULTIPLIERS, ADDERS, PRODUCT, TOP_VALUE = ["m1", "m2", "m3"], {"a1": ("m1", "m2"), "a2": ("m2", "m3")}, 6, 15
 STEPS, BUDGET = 12, "1000000"
 
 
@@ -54,6 +55,17 @@ def broken_sets(circuit, patterns, size):
         choices = [dict(zip(gates, values)) for values in product((0, 1), repeat=size)]
         if all(any(outputs(circuit, inputs, given) == shown for given in choices) for inputs, shown in patterns):
             yield tuple(sorted(f"{gate}-breaks" for gate in gates))
+
+
+def polybox_sets(shown):
+    """All sets of parts that show these two numbers if they give what they like, and none of whose parts is one."""
+    parts, whole = MULTIPLIERS + list(ADDERS), []
+    for gates in chain.from_iterable(combinations(parts, size) for size in range(len(parts) + 1)):
+        broken = [it for it in MULTIPLIERS if it in gates]
+        values = [{**dict.fromkeys(MULTIPLIERS, PRODUCT), **dict(zip(broken, given))} for given in product(range(TOP_VALUE + 1), repeat=len(broken))]
+        if any(all(adder in gates or it[one] + it[other] == number for (adder, (one, other)), number in zip(ADDERS.items(), shown)) for it in values):
+            whole.append(tuple(sorted(f"{gate}-breaks" for gate in gates)))
+    return sorted(one for one in whole if not any(set(other) < set(one) for other in whole))
 
 
 def least_sets(circuit, patterns, kind):
@@ -108,10 +120,10 @@ class Asked:
         words = ("EXPLAINED", "NONE", "CERTAIN", "POSSIBLE", "EXCLUDED", "OPEN", "UNDECIDED")
         self.compare(what, [line for line in ran.stdout.split("\n") if line.startswith(words)], wanted_lines(faults, found))
 
-    def all_sets(self, what, wanted):
+    def all_sets(self, what, wanted, steps=STEPS):
         """Asks for all minimal sets."""
         found = set()
-        listed.sets(listed.Question(self.program, *self.paths, str(STEPS), BUDGET), found, 9)
+        listed.sets(listed.Question(self.program, *self.paths, str(steps), BUDGET), found, 9)
         self.compare(what, sorted(it for it in found if not any(listed.is_part(other, it) for other in found)), wanted)
 
 
@@ -147,11 +159,19 @@ def ask_adder(asked):
             asked.all_sets(f"adder {inputs} {shown}", minimal_sets(ADDER, [(inputs, shown)], broken_sets))
 
 
+def ask_polybox(asked):
+    model = text_of("polybox")
+    for shown in product((10, 12, 4), (12, 10, 15)):
+        asked.put(model, (f"{output}-{number}" for output, number in zip("FG", shown)))
+        asked.all_sets(f"polybox {shown}", polybox_sets(shown), 6)
+
+
 def main(words):
     with tempfile.TemporaryDirectory() as room:
         asked = Asked(os.path.abspath(words[0]), room)
         ask_c17(asked)
         ask_adder(asked)
+        ask_polybox(asked)
     print(f"{asked.count} questions, {asked.wrong} answered otherwise")
     return 1 if asked.wrong else 0
 
