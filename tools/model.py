@@ -107,6 +107,14 @@ class Variables:
                 self.put(f"{column} or more of the first {first} counted faults")
 
 
+def values_in(path):
+    """What the solver wrote."""
+    try:
+        return read(path)
+    except OSError as fault:
+        raise Wrong(f"{path}: {fault.strerror}") from fault
+
+
 def true_of(text):
     """The variables that the solver found true."""
     lines = text.split("\n")
@@ -146,15 +154,16 @@ def run_of(variables, true):
 
 
 def main(words):
-    if len(words) not in (4, 5) or (len(words) == 5) != (words[3] == "--names") or not words[2].isdigit():
+    is_named = len(words) == 5 and words[3] == "--names" and re.fullmatch(r"any|\d+", words[4])
+    if not is_named and len(words) != 4 or not words[2].isdigit():
         sys.exit(__doc__)
     variables = Variables(sound_model(words[0]), sound_log(words[1]), int(words[2]))
-    if words[3] == "--names":
+    if is_named:
         if words[4] != "any":
             variables.put_counter(int(words[4]))
         print("\n".join(f"{number} {name}" for number, name in enumerate(variables.words) if number))
         return 0
-    run = run_of(variables, true_of(read(words[3])))
+    run = run_of(variables, true_of(values_in(words[3])))
     print("\n".join([f"run {len(run)}", *run]))
     return 0
 

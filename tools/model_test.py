@@ -13,7 +13,8 @@ import subprocess
 import sys
 from collections import Counter
 
-from model import PAIRWISE, Log, Network, Variables, moment
+from model import PAIRWISE, Variables, moment, sound_log
+from texts import sound_model
 
 EXAMPLES = os.path.join(os.path.dirname(os.path.dirname(os.path.abspath(__file__))), "examples")
 # plants, logs, steps and bounds: chains over states, over groups and over matches, doubtful alarms, labels in doubt, no step, no bound
@@ -25,13 +26,13 @@ class Clauses:
     """The clauses of a question, as sorted literals, written by the names of their variables. A name behind a minus is negated."""
 
     def __init__(self, model, log, steps, bound):
-        self.net, self.log, self.last, self.steps = Network(model), Log(log), steps, range(1, steps + 1)
-        variables = Variables(self.net, self.log, steps)
+        self.model, self.log, self.last, self.steps = sound_model(model), sound_log(log), steps, range(1, steps + 1)
+        variables = Variables(self.model, self.log, steps)
         if bound != "any":
             variables.put_counter(int(bound))
         self.numbers, self.found = {words: number for number, words in enumerate(variables.words)}, Counter()
-        self.seen = [name for name, label in self.net.labels.items() if label]
-        self.moves = self.moves_of(model)
+        self.events = self.model.events
+        self.seen = [name for name, event in self.events.items() if event.label]
         self.put_states()
         self.put_moves()
         self.put_exclusions()
@@ -60,62 +61,48 @@ class Clauses:
             if at + 1 < len(names):
                 self.put("-" + chain.format(at), chain.format(at + 1))
 
-    @staticmethod
-    def moves_of(path):
-        """The initial states, and of each component the transitions."""
-        with open(path, encoding="utf-8") as it:
-            lines = [line.split() for line in it if line.strip() and not line.startswith("#")]
-        moves, initial, component = {}, set(), None
-        for words in lines:
-            if words[0] == "component":
-                component = words[1]
-            elif words[0] == "state" and words[2:]:
-                initial.add((component, words[1]))
-            elif words[0] == "trans":
-                moves.setdefault((component, words[2], words[1]), []).append(words[3])
-        actions = {words[1]: [part.split(".") for part in words[words.index(":") + 1:]] for words in lines if words[0] == "event"}
-        return moves, initial, actions
-
     def put_states(self):
-        for component, states in self.net.states.items():
+        for component, states in self.model.states.items():
             for after in [0, *self.steps]:
                 names = [f"{component} is {state} {moment(after)}" for state in states]
                 self.put(*names)
                 self.put_one_at_most(names, f"{component} is in one of its first {{}} states {moment(after)}")
             for state in states:
-                if (component, state) not in self.moves[1]:
+                if state not in self.model.inits[component]:
                     self.put(f"-{component} is {state} at the start")
                 for step in self.steps:
                     self.put(f"-{component} is {state} {moment(step - 1)}", f"{component} is {state} {moment(step)}",
-                             *(f"{event} happens in step {step}" for event, parts in self.net.parts.items() if component in parts))
+                             *(f"{name} happens in step {step}" for name, event in self.events.items() if component in event.parts))
 
     def put_moves(self):
-        moves, _, actions = self.moves
-        for event, parts in actions.items():
-            for (component, action), step in itertools.product(parts, self.steps):
-                for state in self.net.states[component]:
-                    self.put(f"-{event} happens in step {step}", f"-{component} is {state} {moment(step - 1)}",
-                             *(f"{component} is {to} {moment(step)}" for to in moves.get((component, action, state), [])))
+        for name, event in self.events.items():
+            for (component, action), step in itertools.product(event.parts.items(), self.steps):
+                for state in self.model.states[component]:
+                    self.put(f"-{name} happens in step {step}", f"-{component} is {state} {moment(step - 1)}",
+                             *(f"{component} is {to} {moment(step)}" for start, by, to in self.model.moves[component] if (start, by) == (state, action)))
+
+    def share(self, one, other):
+        return self.events[one].parts.keys() & self.events[other].parts.keys()
 
     def put_exclusions(self):
         groups = []
-        for event, parts in self.net.parts.items():
-            group = next((it for it in groups if all(parts & self.net.parts[other] for other in it)), None)
+        for name in self.events:
+            group = next((it for it in groups if all(self.share(name, other) for other in it)), None)
             if group is None:
-                groups.append([event])
+                groups.append([name])
             else:
-                group.append(event)
+                group.append(name)
         for step in self.steps:
             for number, group in enumerate(groups, 1):
                 self.put_one_at_most([f"{event} happens in step {step}" for event in group], f"one of the first {{}} events of group {number} ({group[0]} ..) happens in step {step}")
             for one, other in itertools.combinations(groups, 2):
                 for first, second in itertools.product(one, other):
-                    if self.net.parts[first] & self.net.parts[second]:
+                    if self.share(first, second):
                         self.put(f"-{first} happens in step {step}", f"-{second} happens in step {step}")
 
     def put_chain(self, event):
         """What comes to the end of the chain isn't left, where it is closed; an alarm takes what comes to it or leaves it, and never both."""
-        alarms = [alarm for alarm, labels in self.log.labels.items() if self.net.labels[event] in labels]
+        alarms = [alarm for alarm, labels in self.log.labels.items() if self.events[event].label in labels]
         ends = [f"no alarm stands for {event}"] + [f"no alarm after {alarm} stands for {event}" for alarm in alarms]
         for step in self.steps:
             left = [f"{event} happens in step {step}"] + [f"{event} in step {step} is left to the alarms after {alarm}" for alarm in alarms]
@@ -134,19 +121,19 @@ class Clauses:
         self.put(f"-{alarm} is done at the start", *false)
         self.put("-the log is asked for", f"{alarm} is done {moment(self.last)}")
         for step in self.steps:
-            taken = [f"{alarm} stands for {event} in step {step}" for event in self.seen if self.net.labels[event] in self.log.labels[alarm]]
+            taken = [f"{alarm} stands for {event} in step {step}" for event in self.seen if self.events[event].label in self.log.labels[alarm]]
             self.put(f"-{alarm} is done {moment(step - 1)}", f"{alarm} is done {moment(step)}")
             self.put(f"-{alarm} is done {moment(step)}", f"{alarm} is done {moment(step - 1)}", *false, *taken)
             self.put_one_at_most(taken, f"{alarm} stands for one of its first {{}} events in step {step}")
 
     def put_pairs(self):
         self.put("the log is asked for")
-        for first, second in dict.fromkeys(self.log.pairs):
+        for first, second in self.log.pairs:
             for after in [0, *self.steps]:
                 self.put("-the log is asked for", f"-{second} is done {moment(after)}", f"{first} is done {moment(after)}")
 
     def put_counted(self, bound):
-        faults = [f"{event} happens in step {step}" for event in self.net.faults for step in self.steps] + [f"{alarm} is false" for alarm in self.log.doubtful]
+        faults = [f"{event} happens in step {step}" for event in self.model.faults() for step in self.steps] + [f"{alarm} is false" for alarm in self.log.labels if alarm in self.log.doubtful]
         if bound == "any" or not faults:
             return
         reached = "{} or more of the first {} counted faults"
