@@ -224,9 +224,11 @@ class Page:
             return head + self.no_verdicts() if self.found.is_read else ""
         rows = [(kind, self.fault(name, kind)) for kind in MARKS for name in known if known[name] == kind]
         heads = ["Verdict", "*Fault event", "What it moves", "In the run above"] + ["Cost"] * bool(self.found.cheapest)
+        if self.is_least:
+            heads[0], heads[3] = "By number", "In the run of least cost"
         caption = "Fault events and what is known of them. " + " ".join(f"{kind.capitalize()}: {MEANS[kind]}." for kind in MARKS if kind in known.values())
         if self.is_least:
-            caption += " The verdicts are about the runs with the fewest faults; the run above, which has the least cost, need not be one of these."
+            caption += " This is about the runs with the fewest faults; the run above, which has the least cost, need not be one of these."
         kept, out = [it for it in rows if it[0] != "excluded"], [it for it in rows if it[0] == "excluded"]
         if len(out) <= FOLDED:
             return head + table(caption, heads, rows)
