@@ -53,6 +53,7 @@ def only(name, text):
     return {name: text}
 
 
+HUB = only("m.des", "des 1\ncomponent hub\nstate s init\n" + "".join(f"trans s a{k} s\n" for k in range(150)) + "".join(f"event e{k} : hub.a{k}\n" for k in range(150)))
 SHOW, TRACE, CHECK, REPLAY = "show m.des", "trace m.des r.run", "check f.cnf p.lrat", "replay m.des l.csv r.run 5"
 DIAGNOSE, SESSION, CHEAPEST = "diagnose m.des l.csv 5 1000", "session m.des s.csv 5 1000", "cheapest m.des l.csv c.costs 5 1000"
 LAST = f"line {COUNTED}"
@@ -204,8 +205,8 @@ CASES = [
     ({}, "diagnose m.des none.csv 5 1000", "LOAD 2", ["none.csv", "LOG", "No such file"]),
     ({}, "trace m.des .", "LOAD 2", ["RUN", "Is a directory"]),
     (only("m.des", (1 << 24) + 1), SHOW, "LONG 1", ["m.des", "16,777,217", "16,777,216"]),
-    (only("m.des", "des 1\ncomponent hub\nstate s init\n" + "".join(f"trans s a{k} s\n" for k in range(150)) + "".join(f"event e{k} : hub.a{k}\n" for k in range(150))), "diagnose m.des l.csv 1000 0",
-     "LARGE 22804000", ["22,804,000", "20,000,000", "877 steps", "hub, with 150"]),
+    (HUB, "diagnose m.des l.csv 1000 0", "LARGE 22804000", ["22,804,000", "20,000,000", "877 steps", "hub, with 150"]),
+    (HUB | only("l.csv", "".join(f"maybe,a{k},FLOOD\n" for k in range(2000))), "cheapest m.des l.csv c.costs 800 0", "LARGE 22352800", ["22,352,800", "705 steps"]),
     # Answers.
     ({}, DIAGNOSE, "EXPLAINED 0", ["5 parallel steps", "no fault"]),
     (only("l.csv", "alarm,a1,STOP\n"), DIAGNOSE, "EXPLAINED 1", ["1 fault (fail)", "not fewer"]),
