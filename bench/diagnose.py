@@ -1,64 +1,57 @@
-"""Times `diagnose` on plants that the program or these scripts make, and prints a table: plant, steps, seconds, memory, answer.
+"""Times `diagnose` on plants that the program or these scripts make, and prints a table: family, plant, steps, seconds of the processor, memory, clauses that are learnt, first line of
+the reply with a budget of 500, and with one of a million.
 
-    python3 bench/diagnose.py PROGRAM
+    python3 bench/diagnose.py PROGRAM [FAMILY..]
 
-PROGRAM is the program as `rt run` builds it, crates/diagnose_cli/out/diagnose_cli. Where MiniSat is installed, it is timed on the
+PROGRAM is the program as `rt run` builds it, crates/diagnose_cli/out/diagnose_cli. With families it asks only the questions of these (`torus`, `"equal alarms"`). Where MiniSat is installed, it is timed on the
 same formula with one fault fewer than are needed, as `cnf` prints it, which it refutes; and where CaDiCaL's library is, and a C++ compiler, it is timed on the
 formulas for all bounds up to the answer, one after another (`ascending.cpp`), unless more than 30 faults are needed. It's no part of the gate.
 
-The first plant is a bus and Z units, as the program's `generate` makes it. Each unit jams, which is a fault that nobody sees, then trips at the
-bus, and is fixed. Some units trip, one after the other, and the log has an alarm for each. So the least number of faults is the number of
-units that trip, and one step more than that is enough. The second are valves that jam and trip, all under one label, and alarms without
-an order. The third is a line of stations, each of which sends to the next; what was sent may be lost, and the sender tells that it is
-late. The fourth are meshes of a telecom network (`meshes.py`), and the fifth one device that tells the same alarm again and again, each
-time by a fault. The sixth is a lamp that is lit and dimmed in turns, and its alarms come in their order, with as many steps as alarms, and half as many again: such chains
-are what a device that tells its states leaves in a log. The last are grids of 20 like components that reboot and tell their neighbours to reboot (`grids.py`), with logs of 1 to
-10 simulated faults, in their whole order and in that of each component alone, within the steps of the simulated run. So many faults are
-an upper bound of the answer.
+How many clauses are learnt depends neither on the machine nor on what else it does. It is the least budget with which there is an answer, looked for between budgets to one part in 16, where the answer took at most 2 seconds.
 
-On 30 November 2026, on four processors with a proof or two beside, seconds of the processor for the whole `diagnose` by the proved program, the least of two runs (of one where a run took more than 10 seconds), and MiB at the
-peak; "before" is commit 8f500805, compiled without its proof, which copied each list of watches before it looked at it and went on to watch what a later clause subsumes. The runs took turns. CaDiCaL's library (1.5.3) was asked for all bounds on the
-formulas that `cnf` prints, the least of two runs, and its seconds are those of the search alone. A single run may vary severalfold where anything changes, so valves, six stations, the mesh of 30 and grids say little (docs/DECISIONS.md has
-means by several growths of activities). Over the 26 questions that both answered, the geometric mean of "now" to CaDiCaL's library is 0.64; of "now" to "before" it is 0.82 over 27. Seven alarms of one device, the mesh of 50 nodes and longer lines weren't run.
+The families:
+- `empty log`: nothing was seen, of 20 and of 100 components, within up to 1,000 steps. A run without an event explains it.
+- `torus`, `telecom`, `protection`, `adder`: plants in the manner of the literature (`plants.py`). All but the adder have logs of simulated runs, in their whole order, in that of each component, or in blocks, within
+  as many steps as the run needs, 1.5 times as many, and twice as many. So many faults as the run has are an upper bound of the answer.
+- `units`: a bus and Z units, as the program's `generate` makes it. Each unit jams, which is a fault that nobody sees, then trips at the bus, and is fixed. Some units trip, one after the other, and the log has an alarm for each.
+  So the least number of faults is the number of units that trip, and one step more than that is enough.
+- `valves`: they jam and trip, all under one label, and the alarms have no order.
+- `stations`: a line of them, each of which sends to the next; what was sent may be lost, and the sender tells that it is late.
+- `meshes` of a telecom network (`meshes.py`).
+- `equal alarms`: one device tells the same alarm again and again, each time by a fault.
+- `lamps`: a lamp is lit and dimmed in turns, and its alarms come in their order, with as many steps as alarms, and half as many again: such chains are what a device that tells its states leaves in a log.
+- `grids` of 20 like components that reboot and tell their neighbours to reboot (`grids.py`), with logs of 1 to 10 simulated faults, in their whole order and in that of each component alone, within the steps of the simulated run.
 
-| Plant | Steps | Before | Now | MiB | CaDiCaL's library | Now to CaDiCaL |
-|---|---|---|---|---|---|---|
-| 64 units | 16 | 0.05 | 0.05 | 14 | 0.13 | 0.4 |
-| 64 units | 18 | 0.06 | 0.05 | 14 | 0.15 | 0.4 |
-| 100 units | 26 | 0.35 | 0.26 | 31 | 0.53 | 0.5 |
-| 100 units | 28 | 0.38 | 0.37 | 33 | 0.64 | 0.6 |
-| 200 units, one step fewer than alarms | 48 | 0.34 | 0.37 | 100 | 1.91 | 0.2 |
-| 200 units | 50 | 3.20 | 3.13 | 196 |  |  |
-| 6 valves, 4 alarms | 4 | 0.09 | 0.06 | 14 | 0.07 | 0.9 |
-| 6 valves, 4 alarms | 5 | 0.26 | 0.11 | 14 | 0.49 | 0.2 |
-| 6 valves, 5 alarms | 4 | 0.54 | 0.80 | 14 | 0.32 | 2.5 |
-| 6 stations, 6 alarms | 6 | 0.05 | 0.05 | 14 | 0.03 | 1.5 |
-| 6 stations, 6 alarms | 8 | 0.27 | 0.47 | 14 | 0.18 | 2.6 |
-| 10 stations, 6 alarms | 6 | 0.22 | 0.10 | 14 | 0.07 | 1.4 |
-| mesh of 20 nodes | 10 | 0.12 | 0.13 | 14 | 0.08 | 1.7 |
-| mesh of 30 nodes | 12 | 1.53 | 0.72 | 19 | 3.01 | 0.2 |
-| 5 alarms of one device | 5 | 0.06 | 0.06 | 14 | 0.05 | 1.1 |
-| 6 alarms of one device | 6 | 1.81 | 1.24 | 15 | 0.32 | 3.9 |
-| lamp, 50 alarms in order | 50 | 0.01 | 0.01 | 14 | 0.11 | 0.1 |
-| lamp, 100 alarms in order | 100 | 0.06 | 0.06 | 14 | 0.82 | 0.1 |
-| lamp, 200 alarms in order | 200 | 0.48 | 0.38 | 42 | 4.91 | 0.1 |
-| lamp, 400 alarms in order | 400 | 4.35 | 4.04 | 165 |  |  |
-| lamp, 100 alarms in order | 150 | 0.42 | 0.35 | 17 | 1.46 | 0.2 |
-| grid of 20, 4 faults, whole order | 13 | 0.07 | 0.06 | 14 | 0.07 | 1.0 |
-| grid of 20, 4 faults, order of each component | 13 | 0.47 | 0.19 | 14 | 0.34 | 0.6 |
-| grid of 20, 5 faults, whole order | 16 | 0.32 | 0.20 | 14 | 0.23 | 0.9 |
-| grid of 20, 5 faults, order of each component | 16 | 3.56 | 2.74 | 35 | 1.84 | 1.5 |
-| grid of 20, 6 faults, whole order | 19 | 0.39 | 0.35 | 14 | 0.23 | 1.5 |
-| grid of 20, 7 faults, whole order | 18 | 0.35 | 0.24 | 14 | 0.38 | 0.6 |
-| grid of 20, 8 faults, whole order | 20 | 6.86 | 5.79 | 58 | 2.43 | 2.4 |
+A single question may vary severalfold where anything changes, so only means over families, or over several growths of activities, tell anything.
 
-Not answered within 150 seconds by an earlier build: the grid with 8 faults in the order of each component (not tried now), and 20 alarms of the device that tells one alarm by three faults in a known order within 20 steps (within 60 seconds).
-Seven alarms of one device were answered in 144 seconds with 78 MiB, once, by an older build under load. MiniSat takes 4.8 for all bounds, and CaDiCaL's library 3.4.
-MiniSat (2.2.1), anew for each bound up to the answer, took 2.0, 15.6, 0.19, 0.39, 0.12, 0.14, 0.44, 1.61, 0.06 and 0.41 seconds on 64 and 100 units (16 and 26 steps), 6 valves with 4 and with 5 alarms, 6 and 10 stations, meshes of 20 and 30 nodes, and
-5 and 6 alarms, two days before and under load.
+On 30 November 2026, by a replica of the search outside the program. It learns as many clauses as the program: 91 of the questions were asked of the program too, with a budget of as many clauses, which was enough, and of one less, which wasn't. "Before" is the search of commit 9ca9733, which
+decided states before events and didn't settle the last steps of one device first. 129 questions of these families and of lines of machines, partly with other logs than those that the script draws, were asked once each with at most 6 seconds of the processor, other work on the machine.
+Clauses (and one more) are geometric means over the questions that both answered. Faults are sums over the questions for which both found a run and the answer is known. Seconds are those of the search alone, as geometric means of ratios over the questions for which one of the two took at
+least 0.03; CaDiCaL's library (1.5.3) was asked all bounds on the same formulas.
 
-Grids, one run each with an older search: in their whole order 1 to 7 faults at most 0.4 seconds, 8, 9 and 10 faults 4.3, 1.2 and 13.8; in the order of each
-component alone 1 to 4 faults at most 0.4, 5 faults 4.3, 6 and 7 no answer within 19. Each answer on a grid was the number of simulated faults.
+| Family | Questions | Clauses: before | now | Faults of first runs: before | now | least | Seconds: now to before | now to CaDiCaL's library | the worst of these | Not answered: before, now, CaDiCaL's library |
+|---|---|---|---|---|---|---|---|---|---|---|
+| empty log | 4 | 75 | 1 | 207 | 0 | 0 | 0.15 | 0.39 | 0.5 | 2, 0, 0 |
+| equal alarms | 4 | 8341 | 2307 | 18 | 18 | 18 | 0.17 | 0.50 | 0.6 | 2, 1, 1 |
+| grids | 12 | 2485 | 2902 | 230 | 93 | 62 | 1.15 | 1.07 | 1.6 | 1, 1, 0 |
+| lamps | 5 | 343 | 343 | 0 | 0 | 0 | 0.84 | 0.16 | 0.3 | 0, 0, 0 |
+| lines of machines | 10 | 172 | 111 | 131 | 58 | 8 | 0.39 | 0.28 | 0.6 | 2, 3, 1 |
+| meshes | 8 | 184 | 151 | 545 | 68 | 40 | 0.66 | 0.48 | 1.0 | 0, 0, 0 |
+| protection | 17 | 944 | 933 | 111 | 121 | 50 | 1.04 | 1.13 | 2.5 | 1, 1, 0 |
+| adders | 6 | 728 | 793 | 150 | 36 | 7 | 1.48 | 0.50 | 1.3 | 0, 0, 0 |
+| stations | 5 | 3958 | 4254 | 17 | 16 | 15 | 1.31 | 2.07 | 4.4 | 0, 0, 0 |
+| telecom | 22 | 1197 | 1124 | 824 | 173 | 104 | 0.89 | 0.60 | 1.4 | 0, 0, 0 |
+| torus, blocks | 6 | 754 | 620 | 109 | 38 | 12 | 1.06 | 0.68 | 1.7 | 0, 0, 0 |
+| torus, order of each component | 8 | 714 | 698 | 137 | 50 | 18 | 0.90 | 1.54 | 3.0 | 1, 1, 0 |
+| torus, whole order | 9 | 877 | 805 | 146 | 48 | 18 | 1.39 | 0.53 | 2.0 | 1, 1, 1 |
+| units | 9 | 76 | 76 | 372 | 87 | 87 | 0.91 | 0.30 | 0.4 | 0, 0, 0 |
+| valves | 4 | 3749 | 4863 | 24 | 17 | 17 | 1.08 | 1.00 | 1.5 | 0, 0, 0 |
+
+Over the 15 families, in geometric means of theirs: 0.67 of the clauses before (0.97 without the empty log and equal alarms), 0.76 of the seconds, and 0.60 of those of CaDiCaL's library, of which stations take twice as long and the torus in the order of each component 1.5 times. The first run that
+is found has 823 faults in all, where it had 3,021 and 456 are needed.
+
+What stays dear are more steps than a log needs. With 1.5 times and twice as many steps it takes so many times as many clauses (and twenty more, in geometric means over the questions that were answered): units 2.2 and 2.6, grids 2.8, protection 5.6 and 12, telecom 9.9 and 35, torus 24 and 48 in
+the whole order, 7 and 46 in that of each component, 17 and 107 in blocks; meshes 0.9. bench/NOTES.md says what was tried against that.
 """
 import os
 import shutil
@@ -67,8 +60,9 @@ import sys
 import tempfile
 
 from grids import question
-from measure import timed
+from measure import spent, timed
 from meshes import mesh
+from plants import adder, drawn, protection, telecom, torus
 
 UNITS = [12, 20, 40, 64, 100, 200]
 LAMPS = [50, 100, 200, 400]
@@ -76,6 +70,11 @@ MOST_ASCENDED = 30
 START = 7
 BUDGET = 1_000_000
 SECONDS = 200
+# Clauses are counted where the answer took at most so many seconds, since that asks the question some ten times more.
+COUNTED = 2
+# With so many clauses it is seen how near both numbers are that come with `UNDECIDED`.
+EARLY = 500
+NAMES = {"whole": "whole order", "component": "order of each component", "blocks": "order of blocks"}
 
 
 def generated(program, units):
@@ -126,28 +125,58 @@ def lamp(alarms):
     return model, log + [f"before,a{a},a{a + 1}" for a in range(alarms - 1)]
 
 
+def slackened(name, model, alarms, faults, orders, slacks):
+    """Logs of simulated runs in some orders, within as many steps as the runs need, and more."""
+    for order in orders:
+        for seed in [1, 2]:
+            for slack in slacks:
+                yield f"{name}, {NAMES[order]}, log {seed}, {slack} times the steps", *drawn(model, alarms, faults, seed, order, slack)
+
+
+def simulated():
+    """The questions about plants from the literature, by their families."""
+    for steps in [20, 50, 100]:
+        yield "empty log", "torus of 100", steps, torus(10, 10), []
+    yield "empty log", "torus of 20", 1000, torus(4, 5), []
+    for order in ["whole", "component", "blocks"]:
+        for it in slackened("torus of 20, 20 alarms", torus(4, 5), 20, 2, [order], [1, 1.5, 2]):
+            yield f"torus, {NAMES[order]}", *it
+    for it in slackened("4 stations, 8 faults", telecom(4, 5), 30, 8, ["whole", "component"], [1, 1.5, 2]):
+        yield "telecom", *it
+    for it in slackened("1 line, 30 alarms", protection(1), 30, 5, ["whole"], [1, 1.5, 2]):
+        yield "protection", *it
+    for it in slackened("3 lines, 30 alarms", protection(3), 30, 5, ["whole", "component"], [1, 1.5]):
+        yield "protection", *it
+    for bits, steps in [(3, 8), (3, 12), (4, 12), (4, 16), (8, 14)]:
+        yield "adder", f"{bits} bits", steps, *adder(bits, bits, {f"a1-{bits // 2}": 1, f"x2-{bits - 1}": 1})
+
+
 def questions(program):
-    """Each with its name, the steps, model and log."""
+    """Each with its family, its name, the steps, model and log."""
+    yield from simulated()
     for units in UNITS:
         model, log = generated(program, units)
         trips = sum(line.startswith("alarm,") for line in log)
         for more in [1, 3] + [-1] * (units == 200):
-            yield f"{units} units", trips + more, model, log
+            yield "units", f"{units} units", trips + more, model, log
     for steps in [4, 5]:
-        yield "6 valves, 4 alarms", steps, *valves(6, 4)
-    yield "6 valves, 5 alarms", 4, *valves(6, 5)
+        yield "valves", "6 valves, 4 alarms", steps, *valves(6, 4)
+    yield "valves", "6 valves, 5 alarms", 4, *valves(6, 5)
     for count, steps in [(6, 4), (6, 6), (6, 8), (10, 6)]:
-        yield f"{count} stations, 6 alarms", steps, *stations(count, ["L0", "L1", "A0", "A1", "A2", "L0|L1"])
-    yield "mesh of 20 nodes", 10, *mesh(20, 3, 3, 6, 10)
-    yield "mesh of 30 nodes", 12, *mesh(30, 4, 4, 8, 10)
-    for alarms in [4, 5, 6, 7]:
-        yield f"{alarms} alarms of one device", alarms, *repeats(alarms)
+        yield "stations", f"{count} stations, 6 alarms", steps, *stations(count, ["L0", "L1", "A0", "A1", "A2", "L0|L1"])
+    for steps in [10, 15]:
+        yield "meshes", "mesh of 20 nodes", steps, *mesh(20, 3, 3, 6, 10)
+    yield "meshes", "mesh of 30 nodes", 12, *mesh(30, 4, 4, 8, 10)
+    for alarms in [5, 6, 7, 8]:
+        yield "equal alarms", f"{alarms} alarms of one device", alarms, *repeats(alarms)
     for alarms in LAMPS:
-        yield f"lamp, {alarms} alarms in order", alarms, *lamp(alarms)
-    yield "lamp, 100 alarms in order", 150, *lamp(100)
+        yield "lamps", f"lamp, {alarms} alarms in order", alarms, *lamp(alarms)
+    yield "lamps", "lamp, 100 alarms in order", 150, *lamp(100)
     for faults in range(1, 11):
         for is_ordered, order in [(True, "whole order"), (False, "order of each component")]:
-            yield f"grid of 20, {faults} faults, {order}", *question(4, 5, faults, START, is_ordered)
+            steps, model, log = question(4, 5, faults, START, is_ordered)
+            for slack in [1, 1.5] if faults == 4 else [1]:
+                yield "grids", f"grid of 20, {faults} faults, {order}", int(steps * slack), model, log
 
 
 def written(folder, model, log):
@@ -167,7 +196,7 @@ def refuted(program, solver, files, steps, faults):
     with tempfile.NamedTemporaryFile("w", suffix=".cnf") as f:
         f.write(formula + "\n")
         f.flush()
-        seconds, _, status, _ = timed(solver, f.name)
+        seconds, _, status, _ = spent(solver, f.name)
         return f"{seconds:.2f}" if status == 20 else f"status {status}"
 
 
@@ -195,23 +224,51 @@ def ascended(program, path, files, steps, faults):
     return f"{float(out.split()[1]):.2f}" if status == 0 else f"status {status}"
 
 
-def main(program, folder):
-    minisat, cadical = shutil.which("minisat"), library(folder)
-    heads = ["Plant", "Steps", "Seconds", "Memory MiB", "Answer"]
+def learnt(program, files, steps, most):
+    """How many clauses `diagnose` learns to its answer, to one part in 16: the least budget with which it answers, between those that were tried."""
+    def is_answered(budget):
+        return not spent(program, "diagnose", *files, str(steps), str(budget))[3].startswith("UNDECIDED")
+    if is_answered(0):
+        return 0
+    few, enough = 0, 16
+    while not is_answered(enough):
+        if enough > most:
+            return None
+        few, enough = enough, 2 * enough
+    while enough - few > max(1, enough // 16):
+        middle = (few + enough) // 2
+        if is_answered(middle):
+            enough = middle
+        else:
+            few = middle
+    return enough
+
+
+def row(program, solvers, files, family, name, steps):
+    """The cells of a question's row."""
+    minisat, cadical = solvers
+    seconds, memory, status, out = spent("timeout", str(SECONDS), program, "diagnose", *files, str(steps), str(BUDGET))
+    answer = out.split("\n")[0] if status != 124 else "none"
+    clauses = learnt(program, files, steps, BUDGET) if seconds <= COUNTED else None
+    early = spent(program, "diagnose", *files, str(steps), str(EARLY))[3].split("\n")[0]
+    cells = [family, name, str(steps), f"{seconds:.2f}", f"{memory:.0f}", "" if clauses is None else str(clauses), early, answer]
+    faults = int(answer.split()[1]) if answer.startswith("EXPLAINED") else 0
+    cells += [refuted(program, minisat, files, steps, faults)] * bool(minisat)
+    return cells + [ascended(program, cadical, files, steps, faults)] * bool(cadical)
+
+
+def main(program, folder, *families):
+    solvers = minisat, cadical = shutil.which("minisat"), library(folder)
+    heads = ["Family", "Plant", "Steps", "Seconds", "MiB", "Clauses", f"After {EARLY} clauses", "Answer"]
     heads += ["MiniSat, one fault fewer"] * bool(minisat) + ["CaDiCaL's library, all bounds"] * bool(cadical)
     print("| " + " | ".join(heads) + " |")
     print("|---" * len(heads) + "|")
-    for name, steps, model, log in questions(program):
-        files = written(folder, model, log)
-        seconds, memory, status, out = timed("timeout", str(SECONDS), program, "diagnose", *files, str(steps), str(BUDGET))
-        answer = out.split("\n")[0] if status != 124 else "none"
-        cells = [name, str(steps), f"{seconds:.2f}", f"{memory:.0f}", answer]
-        faults = int(answer.split()[1]) if answer.startswith("EXPLAINED") else 0
-        cells += [refuted(program, minisat, files, steps, faults)] * bool(minisat)
-        cells += [ascended(program, cadical, files, steps, faults)] * bool(cadical)
-        print("| " + " | ".join(cells) + " |", flush=True)
+    for family, name, steps, model, log in questions(program):
+        if not families or family.split(",")[0] in families:
+            cells = row(program, solvers, written(folder, model, log), family, name, steps)
+            print("| " + " | ".join(cells) + " |", flush=True)
 
 
 if __name__ == "__main__":
     with tempfile.TemporaryDirectory() as scratch:
-        main(sys.argv[1], scratch)
+        main(sys.argv[1], scratch, *sys.argv[2:])
