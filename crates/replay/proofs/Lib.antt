@@ -1,4 +1,6 @@
 mod SetLemmas
+pub mod MoveLemmas
+pub mod MarkLemmas
 mod FollowLemmas
 pub mod RunLemmas
 mod TraceLemmas

@@ -1,6 +1,7 @@
 pub mod Traced
 pub mod RunText
 pub mod StateSets
+pub mod Moves
 pub mod Explanation
 pub mod Matching
 pub mod Replayed

@@ -8,8 +8,11 @@
 #![tactic(auto)]
 
 mod laws;
+mod marks;
 mod matching;
+mod moves;
 mod placing;
+mod plant;
 mod replaying;
 mod run;
 mod run_text;
