@@ -1,5 +1,5 @@
 -- How a session ends, by how its rows went.
-use Rattle.std.proofs.Common.{◌≡◌, ◌≢◌, ◌≤◌, ◌<◌, ◌∙◌, ℕ, List, [], ◌∷◌, Option, Some, None, Result, Ok, Err, IsErrAnd, IsErrOf, IsOkAnd, MatchOption, refl, sym, ap, subst, arith}
+use Rattle.std.proofs.Common.{◌≡◌, ◌≢◌, ◌≤◌, ◌<◌, ◌∙◌, ℕ, List, [], ◌∷◌, Option, Some, None, Result, Ok, Err, IsErrOf, IsOkAnd, MatchOption, refl, sym, ap, subst, arith}
 use Rattle.std.specs.Prelude.{option_map}
 use Rattle.des_net.specs.Network.{Net}
 use Rattle.least_faults.specs.declared.TheConstants.{MOST_SIZE}
@@ -28,7 +28,7 @@ use Rattle.diagnose_cli.specs.Sessions.{MaySay, status_of_session}
 use Rattle.endings.specs.Transcripts.{Ending, OrMemory, UnlessMemory, once}
 use Rattle.diagnose_cli.proofs.Limits.{within_limit, past_limit}
 use Rattle.telling.specs.Telling.{RisesExactlyIf}
-use Rattle.telling.proofs.Failing.{fails_alike, none_failed}
+use Rattle.telling.proofs.Failing.{fails_alike}
 use Rattle.telling.proofs.Taking.{nothing_taken}
 use Rattle.endings.proofs.Once.{wants_memory}
 use Rattle.endings.proofs.Speaking.{put_speaks}
@@ -40,16 +40,6 @@ use Rattle.diagnose_cli.proofs.StopStatus.{between}
 -- memory was wanting before anything was said
 pub broke_before : (due : Ending → Type 0) (lost : Type 0) → lost → (taken : Option (List ℕ)) (rose : Type 0) → Speaks due lost taken taken rose 9
 broke_before due lost q taken rose = put_speaks due lost taken taken rose 9 (λ four. omega (arith, four)) (wants_memory due lost q taken taken 9 refl (nothing_taken taken))
-
-pub said_nothing : (due : Ending → Type 0) (lost : Type 0) → lost → (taken : Option (List ℕ)) (rose : Type 0) (r : Result (Unit {0}) Broken) → IsErrAnd r (λ e. e ≡ Memory) → Speaks due lost taken taken rose (status_of_session r)
-said_nothing due lost q taken rose (Ok done) is = absurd is
-said_nothing due lost q taken rose (Err e) is =
-    subst (λ (x : Broken). Speaks due lost taken taken rose (status_of_session (Err x))) (sym is) (broke_before due lost q taken rose)
-
--- and no put failed
-pub failed_nothing : (count : Option ℕ) (r : Result (Unit {0}) Broken) → IsErrAnd r (λ e. e ≡ Memory) → RisesExactlyIf (IsErrOf r Put) count count
-failed_nothing count (Ok done) is = absurd is
-failed_nothing count (Err e) is = let memory : e ≡ Memory = is in none_failed (IsErrOf (Err e) Put) count count (λ put. cc) refl
 
 -- a put failed where the status is 4
 pub session_fails : (r : Result (Unit {0}) Broken) (status : ℕ) (before now : Option ℕ) → status ≡ status_of_session r → RisesExactlyIf (IsErrOf r Put) before now → RisesExactlyIf (status ≡ 4) before now

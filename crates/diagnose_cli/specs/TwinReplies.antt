@@ -1,5 +1,6 @@
 -- What `twin` may say, and what it leaves in the book.
-use Rattle.std.specs.Prelude.{◌≡◌, ⊤, ℕ, List, [], IsSomeAnd, MatchOption}
+use Rattle.std.specs.Prelude.{◌≡◌, ◌<◌, ◌≤◌, ⊤, ℕ, List, [], length, IsSomeAnd, MatchOption}
+use Rattle.des_base.specs.declared.TheConstants.{MOST_STEPS}
 use Rattle.des_net.specs.Network.{Net}
 use Rattle.event_costs.specs.CostText.{fault_event_of}
 use Rattle.proof_ledger.specs.Book.{BookEntry}
@@ -10,6 +11,12 @@ use Rattle.answers.specs.declared.twin.Twin.{Twin as TwinAnswer}
 use Rattle.answers.specs.declared.twin.Twin.TheVariants.{Ambiguous as AlikeRuns, Clear, Undecided as NotTested}
 use Rattle.endings.specs.declared.ending.Kind.{Kind}
 use Rattle.endings.specs.declared.ending.Kind.TheVariants.{Done, Undecided, Ambiguous}
+
+-- an event of the network, and not too many steps, before the fault and after it
+pub record MayTest (net : Net) (fault n d : ℕ) : Type 0 where
+  pub known : fault < length net.events
+  pub steps : n ≤ MOST_STEPS
+  pub after : d ≤ MOST_STEPS
 
 -- two runs that look alike have a kind of their own; that there are none is the yes of `twin`
 abbrev pub kind_of_twin : TwinAnswer → Kind

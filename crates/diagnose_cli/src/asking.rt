@@ -6,9 +6,11 @@ ghost use Rattle.diagnose_cli.specs.Asking.{ClosesRequest, IsAnswerDue};
 ghost use Rattle.diagnose_cli.specs.Questions.{AnswersTo, NamedQuestion, Requests, is_request, named_questions, request_among, request_by, request_of};
 ghost use Rattle.endings.specs.Files.{loads};
 ghost use Rattle.endings.specs.Transcripts.{UnlessMemory, once};
-ghost use Rattle.inquiries.specs.Begun.{LeavesQuestion, MayLearn};
+ghost use Rattle.des_net.specs.Network.{Net};
+ghost use Rattle.inquiries.specs.Begun.{HasQuestion, LeavesQuestion, MayLearn};
 ghost use Rattle.least_faults.specs.Parts.{IsWithinLimits};
 ghost use Rattle.log_csv.specs.LogText.{log_of};
+ghost use Rattle.log_order.specs.Log.{Log};
 ghost use Rattle.model_text.specs.ModelFaults.{network_of};
 ghost use Rattle.proof_ledger.specs.Book.{BookEntry};
 
@@ -46,7 +48,9 @@ pub trait Replying: Inquiry {
         requires answers { ((book : List BookEntry) × Self.says self.now case.now.net case.now.log steps book answer) }
         ensures { (book : List BookEntry) → Self.says self.now case.now.net case.now.log steps book answer → IfOk result (AnswersTo question (word self.now) case.now.net case.now.log steps book) };
 
-    ghost same_budget: { (s : Self) → question.budget (word s) ≡ Self.budget s };
+    ghost may_always: { (s : Self) (net : Net) (log : Log) (n : ℕ) → IsWithinLimits net log n → Self.may s net log n };
+
+    ghost leaves_question: { (s : Self) (net : Net) (log : Log) (n : ℕ) (book : List BookEntry) → Self.leaves s net log n book → HasQuestion net log n (MayLearn (question.budget (word s))) book };
 }
 
 /// The reply to the question that the words ask. They ask none, and so call no command, if no question has the first word as its

@@ -21,9 +21,9 @@ use des_base::{Memory, Shelf, WordList};
 use des_net::Network;
 use endings::{Kind, Reply, Stop, fetch_costs};
 use event_costs::CostTable;
-use inquiries::Case;
+use inquiries::{Case, pose};
 use least_faults::MOST_SIZE;
-use pricing::least_cost;
+use pricing::LeastCost;
 use proof_ledger::Ledger;
 use report::print_cheap;
 use std::alloc::Global;
@@ -107,7 +107,11 @@ fn reply_to_costs(
     ensures says { IfOk result (SaysCheap case.now.net (cost_at table.now) case.now.log limits.steps limits.budget book.new.entries) }
     ensures left { LeavesCosts case.now.net (cost_at table.now) case.now.log limits.steps limits.budget book.new.entries }
 {
-    let cheap = least_cost(alloc, case, limits.steps, table, limits.budget, book)?;
+    let inquiry = LeastCost {
+        table,
+        budget: limits.budget,
+    };
+    let cheap = pose(alloc, case, limits.steps, &inquiry, book)?;
     tell(alloc, case, limits.steps, &cheap)
 }
 

@@ -38,7 +38,9 @@ impl Replying for FormulaWithin {
         reply_of_formula(alloc, &answer)
     }
 
-    ghost same_budget = { λ s. refl };
+    ghost may_always = { λ s net log n within. within };
+
+    ghost leaves_question = { λ s net log n book left. left };
 }
 
 // The bound on the faults that is asked for: `any` sets none.

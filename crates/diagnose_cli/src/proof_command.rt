@@ -43,7 +43,9 @@ impl Replying for Refutation {
         }
     }
 
-    ghost same_budget = { λ s. refl };
+    ghost may_always = { λ s net log n within. within };
+
+    ghost leaves_question = { λ s net log n book left. left };
 }
 
 // The reply where there is nothing to refute.

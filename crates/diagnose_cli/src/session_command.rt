@@ -14,14 +14,16 @@ ghost use Rattle.log_csv.specs.ScriptText.{script_of};
 ghost use Rattle.model_text.specs.ModelFaults.{network_of};
 ghost use Rattle.sat_order.specs.Rank.{IsRanked};
 ghost use Rattle.telling.specs.Telling.{RisesExactlyIf};
+ghost use Rattle.telling.specs.declared.each.Broken.TheVariants.{Put};
 
 use crate::command::{Command, Limits};
 use crate::files::fetch_plan;
 use crate::session_rows::{Plan, RowTeller};
 use alarm_session::Session;
-use des_base::{EventId, Shelf, Sink, WordList};
+use des_base::{Memory, Shelf, Sink, WordList};
 use endings::{Stop, put_once};
-use indep::{Indep, Table};
+use indep::Indep;
+use inquiries::{NetworkSearch, set_up};
 use least_faults::MOST_SIZE;
 use log_order::AlarmLog;
 use proof_ledger::Ledger;
@@ -29,7 +31,6 @@ use sat_order::Order;
 use sizing::question_size;
 use std::alloc::Global;
 use std::mem;
-use step_encode::step_variables;
 use telling::{Broken, put_each};
 
 /// Carries out the rows of a script, puts the reply to each before the next one is taken, and answers the exit status.
@@ -85,7 +86,7 @@ fn status_of(said: Result<(), Broken>) -> u8
     }
 }
 
-// Carries out the rows, with a table of the events that touch a common component.
+// Carries out the rows.
 fn carry_out_rows<S: Sink>(
     alloc: Global,
     plan: &Plan,
@@ -97,38 +98,34 @@ fn carry_out_rows<S: Sink>(
     ensures speaks { Speaks (MaySay plan.now.net plan.now.limits.steps plan.now.limits.budget plan.now.script book.new.entries) (book.new.entries ≡ []) (S.taken out.old) (S.taken out.new) (Rose (S.faults out.old) (S.faults out.new)) (status_of_session result) }
     ensures failures { RisesExactlyIf (IsErrOf result Broken.Put) (S.failures out.old) (S.failures out.new) }
 {
-    let table = Table::new(alloc, &plan.net)?;
-    let test = Indep::new(&plan.net, |a: u32, b: u32| {
-        table.get(EventId(a), EventId(b))
-    });
-    carry_out_by_test(alloc, plan, &test, out, book)
+    match set_up(alloc, &plan.net, plan.limits.steps, plan, book, out) {
+        Ok(said) => said,
+        Err(Memory) => Err(Broken::Memory),
+    }
 }
 
-// The same with a test that is given. What comes behind the variables of the steps is decided first, then the events, and then the
-// states.
-fn carry_out_by_test<T: Fn(u32, u32) -> bool, S: Sink>(
-    alloc: Global,
-    plan: &Plan,
-    test: &Indep<T>,
-    out: &mut S,
-    book: &mut Ledger,
-) -> Result<(), Broken>
-    requires right { IsTest T.pre T.post test.now.test test.now.net }
-    requires net { test.now.net ≡ plan.now.net }
-    requires steps { plan.now.limits.steps ≤ MOST_STEPS }
-    requires empty { book.old.entries ≡ [] }
-    ensures speaks { Speaks (MaySay plan.now.net plan.now.limits.steps plan.now.limits.budget plan.now.script book.new.entries) (book.new.entries ≡ []) (S.taken out.old) (S.taken out.new) (Rose (S.faults out.old) (S.faults out.new)) (status_of_session result) }
-    ensures failures { RisesExactlyIf (IsErrOf result Broken.Put) (S.failures out.old) (S.failures out.new) }
-{
-    let first = step_variables(alloc, &plan.net, plan.limits.steps, test)?;
-    let events = first - plan.net.events() * plan.limits.steps;
-    let order = Order::new(alloc, |var: u32| {
-        u64::from(var >= events) + u64::from(var >= first)
-    });
-    carry_out_by_order(alloc, plan, test, order, out, book)
+impl<S: Sink> NetworkSearch<S> for Plan {
+    type Answer = Result<(), Broken>;
+
+    ghost about = { λ s. s.net };
+
+    ghost may = { λ s. s.limits.steps ≤ MOST_STEPS };
+
+    ghost says = { λ s before now book said. Speaks (MaySay s.net s.limits.steps s.limits.budget s.script book) (book ≡ []) (S.taken before) (S.taken now) (Rose (S.faults before) (S.faults now)) (status_of_session said) × RisesExactlyIf (IsErrOf said Put) (S.failures before) (S.failures now) };
+
+    fn begin<T: Fn(u32, u32) -> bool, R: Fn(u32) -> u64>(
+        &self,
+        alloc: Global,
+        test: &Indep<T>,
+        order: Order<R>,
+        book: &mut Ledger,
+        out: &mut S,
+    ) -> Result<(), Broken> {
+        carry_out_by_order(alloc, self, test, order, out, book)
+    }
 }
 
-// The same with an order that is given too. The book is the session's.
+// Carries them out with a test and an order that are given. The book is the session's.
 fn carry_out_by_order<T: Fn(u32, u32) -> bool, R: Fn(u32) -> u64, S: Sink>(
     alloc: Global,
     plan: &Plan,

@@ -2,13 +2,13 @@
 ghost use Rattle.std.specs.Prelude.{◌≡◌, ◌≢◌, ◌<◌, ◌≤◌, ℕ, List, [], ◌∷◌, length, Some, IfErr, IfOk};
 ghost use Rattle.des_base.specs.declared.TheConstants.{MOST_STEPS};
 ghost use Rattle.des_base.specs.CommandWords.{word_at};
+ghost use Rattle.des_net.specs.Network.{Net};
 ghost use Rattle.diagnose_cli.specs.Due.{MayAnswer, Closes};
 ghost use Rattle.endings.specs.Files.{loads};
 ghost use Rattle.diagnose_cli.specs.Rows.{AreTold};
 ghost use Rattle.endings.specs.Transcripts.{UnlessMemory, once};
-ghost use Rattle.diagnose_cli.specs.TwinReplies.{LeavesOfWord, SaysTwin, kind_of_twin, reply_of_twin};
+ghost use Rattle.diagnose_cli.specs.TwinReplies.{LeavesOfWord, MayTest, SaysTwin, kind_of_twin, reply_of_twin};
 ghost use Rattle.event_costs.specs.CostText.{fault_event_of};
-ghost use Rattle.indep.specs.StoredTest.{IsTest};
 ghost use Rattle.model_text.specs.ModelFaults.{network_of};
 ghost use Rattle.proof_ledger.specs.Book.{BookEntry};
 ghost use Rattle.report.specs.Replies.{TwinEventsKnown};
@@ -19,14 +19,14 @@ use des_base::{EventId, Memory, Shelf, WordList};
 use des_net::Network;
 use endings::{Kind, Reply, Stop, fetch_model};
 use event_costs::find_fault;
-use indep::{Indep, Table};
+use indep::Indep;
+use inquiries::{NetworkSearch, set_up};
 use least_faults::MOST_SIZE;
 use proof_ledger::Ledger;
 use report::print_twin;
 use sat_order::Order;
 use sat_solve::Solver;
 use std::alloc::Global;
-use step_encode::step_variables;
 use twin_test::{Twin, twin_size, twin_test};
 
 /// What is asked for: runs of at most this many parallel steps, in how many of them at least something is seen after the fault, and
@@ -133,7 +133,7 @@ fn tell(alloc: Global, net: &Network, limits: TwinLimits, answer: &Twin) -> Resu
     reply_of_twin(alloc, net, limits.steps, answer)
 }
 
-// Makes the test, with a table of the events that touch a common component.
+// Makes the test.
 fn test(
     alloc: Global,
     net: &Network,
@@ -148,47 +148,48 @@ fn test(
     ensures tested { IfOk result (IsTested net.now fault limits.steps limits.after limits.budget book.new.entries) }
     ensures left { LeavesTwins net.now fault limits.steps limits.after limits.budget book.new.entries }
 {
-    let table = Table::new(alloc, net)?;
-    let apart = Indep::new(net, |a: u32, b: u32| table.get(EventId(a), EventId(b)));
-    test_by(alloc, net, fault, limits, &apart, book)
+    let test = TwinTest { net, fault, limits };
+    match set_up(alloc, net, limits.steps, &test, book, &mut ()) {
+        Ok(answer) => answer,
+        Err(Memory) => Err(Memory),
+    }
 }
 
-// The same with a test of touching events that is given. What comes behind the variables of the steps of one run is decided first,
-// then the events of that run, and then its states.
-fn test_by<T: Fn(u32, u32) -> bool>(
-    alloc: Global,
-    net: &Network,
+// A test of a fault event.
+#[derive(Clone, Copy)]
+struct TwinTest<'a> {
+    net: &'a Network,
     fault: EventId,
     limits: TwinLimits,
-    apart: &Indep<T>,
-    book: &mut Ledger,
-) -> Result<Twin, Memory>
-    requires right { IsTest T.pre T.post apart.now.test apart.now.net }
-    requires net { apart.now.net ≡ net.now }
-    requires fault { fault < length net.now.events }
-    requires steps { limits.steps ≤ MOST_STEPS }
-    requires after { limits.after ≤ MOST_STEPS }
-    requires empty { book.old.entries ≡ [] }
-    ensures tested { IfOk result (IsTested net.now fault limits.steps limits.after limits.budget book.new.entries) }
-    ensures left { LeavesTwins net.now fault limits.steps limits.after limits.budget book.new.entries }
-{
-    let first = step_variables(alloc, net, limits.steps, apart)?;
-    let events = first - net.events() * limits.steps;
-    let order = Order::new(alloc, |var: u32| {
-        u64::from(var >= events) + u64::from(var >= first)
-    });
-    let solver = Solver::new(alloc, order);
-    twin_test(
-        alloc,
-        net,
-        fault,
-        limits.steps,
-        limits.after,
-        apart,
-        solver,
-        book,
-        limits.budget,
-    )
+}
+
+impl NetworkSearch<()> for TwinTest<'_> {
+    type Answer = Result<Twin, Memory>;
+
+    ghost about = { λ s. s.net.now };
+
+    ghost may = { λ s. MayTest s.net.now s.fault s.limits.steps s.limits.after };
+
+    ghost says = { λ s before now book answer. IfOk answer (IsTested s.net.now s.fault s.limits.steps s.limits.after s.limits.budget book) × LeavesTwins s.net.now s.fault s.limits.steps s.limits.after s.limits.budget book };
+
+    fn begin<T: Fn(u32, u32) -> bool, R: Fn(u32) -> u64>(
+        &self,
+        alloc: Global,
+        test: &Indep<T>,
+        order: Order<R>,
+        book: &mut Ledger,
+        _out: &mut (),
+    ) -> Result<Twin, Memory> {
+        let solver = Solver::new(alloc, order);
+        let TwinLimits {
+            steps,
+            after,
+            budget,
+        } = self.limits;
+        twin_test(
+            alloc, self.net, self.fault, steps, after, test, solver, book, budget,
+        )
+    }
 }
 
 // The reply that has the text of the answer.

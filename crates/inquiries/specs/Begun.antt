@@ -31,9 +31,13 @@ pub record HasQuestion (net : Net) (log : Log) (n : ℕ) (P : List BookEntry →
   pub axioms : axioms_of book ≡ question_axioms net log n columns
   pub beside : P book
 
+-- the book is empty, or P of it
+abbrev pub IsEmptyOr : (List BookEntry → Type 0) → List BookEntry → Type 0
+IsEmptyOr P book = (book ≡ []) ⊎ P book
+
 -- the book is empty, or a question stands in it so
 abbrev pub LeavesQuestion : Net → Log → ℕ → (List BookEntry → Type 0) → List BookEntry → Type 0
-LeavesQuestion net log n P book = (book ≡ []) ⊎ HasQuestion net log n P book
+LeavesQuestion net log n P = IsEmptyOr (HasQuestion net log n P)
 
 -- the book has axioms and nothing else
 abbrev pub HasAxiomsAlone : List BookEntry → Type 0

@@ -1,7 +1,9 @@
 // A question as a formula: its axioms, and a unit clause for each assumption.
 ghost use Rattle.std.specs.Prelude.{◌≡◌, ◌++◌, IfOk, IfSome, None};
+ghost use Rattle.inquiries.specs.Begun.{HasQuestion, MayLearn};
 ghost use Rattle.inquiries.specs.Formula.{IsFormulaOf, counted_bound};
 ghost use Rattle.least_faults.specs.Asking.{IsBoundable};
+ghost use Rattle.least_faults.specs.Parts.{IsWithinLimits};
 ghost use Rattle.proof_ledger.specs.Book.{clauses_of};
 ghost use Rattle.proof_text.specs.CnfText.{formula};
 ghost use Rattle.proof_text.specs.Refutation.{unit_clauses};
@@ -24,9 +26,13 @@ pub struct FormulaWithin {
 impl Inquiry for FormulaWithin {
     type Answer = Cnf;
 
+    ghost may = { λ s net log n. IsWithinLimits net log n };
+
     ghost says = { λ s net log n book cnf. IsFormulaOf net log n s.bound book (formula cnf.vars cnf.clauses.clauses) };
 
-    ghost budget = { λ s. None };
+    ghost leaves = { λ s net log n book. HasQuestion net log n (MayLearn None) book };
+
+    ghost fits = { λ s net log n within. within };
 
     fn ask<R: Fn(u32) -> u64>(
         &self,

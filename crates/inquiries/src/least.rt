@@ -1,10 +1,10 @@
 // The least number of faults, as an inquiry.
 ghost use Rattle.std.specs.Prelude.{IfOk, Some};
-ghost use Rattle.inquiries.specs.Begun.{HasBegun, HasLearntWithin, HasQuestion};
+ghost use Rattle.inquiries.specs.Begun.{HasBegun, HasLearntWithin, HasQuestion, MayLearn};
 ghost use Rattle.inquiries.specs.Diagnosed.{IsDiagnosed};
 ghost use Rattle.inquiries.specs.Refuted.{HasEvidenceFor};
 ghost use Rattle.least_faults.specs.Growing.{KeepsQuestion};
-ghost use Rattle.least_faults.specs.Parts.{AreReady};
+ghost use Rattle.least_faults.specs.Parts.{AreReady, IsWithinLimits};
 
 use crate::question::{Case, Inquiry};
 use des_base::Memory;
@@ -21,9 +21,13 @@ pub struct LeastFaults {
 impl Inquiry for LeastFaults {
     type Answer = Found;
 
+    ghost may = { λ s net log n. IsWithinLimits net log n };
+
     ghost says = { λ s net log n book found. IsDiagnosed net log n s.budget book found };
 
-    ghost budget = { λ s. Some s.budget };
+    ghost leaves = { λ s net log n book. HasQuestion net log n (MayLearn (Some s.budget)) book };
+
+    ghost fits = { λ s net log n within. within };
 
     fn ask<R: Fn(u32) -> u64>(
         &self,

@@ -7,7 +7,8 @@
 //!   proof that fewer faults won't do.
 //! - [`begin`] and [`find_least`] are what several ask by: the question is written, and the least number of faults is searched for.
 //!
-//! Whatever is asked, and also where memory is wanting, the axioms of the book that is left are those of the question.
+//! Each inquiry says what it may be asked of (`may`), and what is left in the book also where memory is wanting (`leaves`): for these, the axioms
+//! of the question.
 #![tactic(auto)]
 
 mod formula;
@@ -15,8 +16,10 @@ mod least;
 mod question;
 mod refutation;
 mod refuting;
+mod setting_up;
 
 pub use formula::FormulaWithin;
 pub use least::{LeastFaults, find_least};
 pub use question::{Case, Inquiry, begin, pose};
 pub use refutation::{Refutation, Refuted};
+pub use setting_up::{NetworkSearch, set_up};

@@ -1,23 +1,23 @@
 // A question is written into a book once, and an inquiry says what is asked of it.
-ghost use Rattle.std.specs.Prelude.{◌≡◌, ℕ, List, [], IfOk, Option};
+ghost use Rattle.std.specs.Prelude.{◌≡◌, ℕ, List, [], IfOk};
 ghost use Rattle.des_net.specs.Network.{Net};
 ghost use Rattle.indep.specs.StoredTest.{IsTest};
-ghost use Rattle.inquiries.specs.Begun.{HasBegun, HasQuestion, LeavesQuestion, MayLearn};
+ghost use Rattle.inquiries.specs.Begun.{HasBegun, IsEmptyOr};
 ghost use Rattle.least_faults.specs.Building.{IsUnused};
 ghost use Rattle.least_faults.specs.Parts.{IsWithinLimits};
 ghost use Rattle.log_order.specs.Log.{Log};
 ghost use Rattle.proof_ledger.specs.Book.{BookEntry};
 
-use des_base::{EventId, Memory};
+use crate::setting_up::{NetworkSearch, set_up};
+use des_base::Memory;
 use des_net::Network;
-use indep::{Indep, Table};
+use indep::Indep;
 use least_faults::{Parts, build};
 use log_order::AlarmLog;
 use proof_ledger::Ledger;
 use sat_order::Order;
 use sat_solve::Solver;
 use std::alloc::Global;
-use step_encode::step_variables;
 
 /// A network, and a log of what was seen of it.
 #[derive(Drop)]
@@ -26,17 +26,21 @@ pub struct Case {
     pub log: AlarmLog,
 }
 
-/// What is asked of a question that is written into a book, by a search that learns no more clauses than a budget says, or without one.
+/// What is asked of a question that is written into a book.
 pub trait Inquiry {
     /// What comes of it.
     type Answer;
 
+    /// What has to be so of network, log and steps.
+    ghost may: { Self → Net → Log → ℕ → Type 0 };
+
+    /// What the answer means beside the book that is left.
     ghost says: { Self → Net → Log → ℕ → List BookEntry → Self.Answer → Type 0 };
 
-    ghost budget: { Self → Option ℕ };
+    /// What is left in the book, also where memory is wanting.
+    ghost leaves: { Self → Net → Log → ℕ → List BookEntry → Type 0 };
 
-    /// Asks it. The book has the axioms of the question alone, and the parts are theirs. What is left in it is said of want of
-    /// memory too.
+    /// Asks it. The book has the axioms of the question alone, and the parts are theirs.
     fn ask<R: Fn(u32) -> u64>(
         &self,
         alloc: Global,
@@ -45,14 +49,16 @@ pub trait Inquiry {
         book: &mut Ledger,
     ) -> Result<Self::Answer, Memory>
         requires begun { HasBegun R.pre R.post case.now.net case.now.log parts.old book.old.entries }
+        requires may { may self.now case.now.net case.now.log parts.old.step.steps }
         ensures says { IfOk result (says self.now case.now.net case.now.log parts.old.step.steps book.new.entries) }
-        ensures left { HasQuestion case.now.net case.now.log parts.old.step.steps (MayLearn (budget self.now)) book.new.entries };
+        ensures left { leaves self.now case.now.net case.now.log parts.old.step.steps book.new.entries };
+
+    ghost fits: { (s : Self) (net : Net) (log : Log) (n : ℕ) → may s net log n → IsWithinLimits net log n };
 }
 
 /// Writes the question which runs within so many parallel steps explain the log into an empty book, and makes the inquiry.
 ///
-/// Which events touch a common component is looked up in a table. Where memory is wanting before the question is written whole,
-/// the book stays empty.
+/// Where memory is wanting before the question is written whole, the book stays empty.
 pub fn pose<Q: Inquiry>(
     alloc: Global,
     case: &Case,
@@ -60,45 +66,61 @@ pub fn pose<Q: Inquiry>(
     inquiry: &Q,
     book: &mut Ledger,
 ) -> Result<Q::Answer, Memory>
-    requires limits { IsWithinLimits case.now.net case.now.log steps }
+    requires may { Q.may inquiry.now case.now.net case.now.log steps }
     requires empty { book.old.entries ≡ [] }
     ensures says { IfOk result (Q.says inquiry.now case.now.net case.now.log steps book.new.entries) }
-    ensures left { LeavesQuestion case.now.net case.now.log steps (MayLearn (Q.budget inquiry.now)) book.new.entries }
+    ensures left { IsEmptyOr (Q.leaves inquiry.now case.now.net case.now.log steps) book.new.entries }
 {
-    let table = Table::new(alloc, &case.net)?;
-    let test = Indep::new(&case.net, |a: u32, b: u32| {
-        table.get(EventId(a), EventId(b))
-    });
-    pose_by_test(alloc, case, steps, &test, inquiry, book)
+    let posing = Posing {
+        case,
+        steps,
+        inquiry,
+    };
+    match set_up(alloc, &case.net, steps, &posing, book, &mut ()) {
+        Ok(answer) => answer,
+        Err(Memory) => Err(Memory),
+    }
 }
 
-// The same with a test that is given. What comes behind the variables of the steps is decided first, those of the log and of the
-// counter; then the events, which are the last of the steps, and then the states.
-fn pose_by_test<T: Fn(u32, u32) -> bool, Q: Inquiry>(
-    alloc: Global,
-    case: &Case,
+// An inquiry, and the case that it is about.
+#[derive(Drop)]
+struct Posing<'a, Q> {
+    case: &'a Case,
     steps: u32,
-    test: &Indep<T>,
-    inquiry: &Q,
-    book: &mut Ledger,
-) -> Result<Q::Answer, Memory>
-    requires right { IsTest T.pre T.post test.now.test test.now.net }
-    requires net { test.now.net ≡ case.now.net }
-    requires limits { IsWithinLimits case.now.net case.now.log steps }
-    requires empty { book.old.entries ≡ [] }
-    ensures says { IfOk result (Q.says inquiry.now case.now.net case.now.log steps book.new.entries) }
-    ensures left { LeavesQuestion case.now.net case.now.log steps (MayLearn (Q.budget inquiry.now)) book.new.entries }
-{
-    let first = step_variables(alloc, &case.net, steps, test)?;
-    let events = first - case.net.events() * steps;
-    let order = Order::new(alloc, |var: u32| {
-        u64::from(var >= events) + u64::from(var >= first)
-    });
-    let solver = Solver::new(alloc, order);
-    pose_by_solver(alloc, case, steps, test, solver, inquiry, book)
+    inquiry: &'a Q,
 }
 
-// The same with a solver that is given too.
+impl<Q: Inquiry> NetworkSearch<()> for Posing<'_, Q> {
+    type Answer = Result<Q::Answer, Memory>;
+
+    ghost about = { λ s. s.case.now.net };
+
+    ghost may = { λ s. Q.may s.inquiry.now s.case.now.net s.case.now.log s.steps };
+
+    ghost says = { λ s before now book answer. IfOk answer (Q.says s.inquiry.now s.case.now.net s.case.now.log s.steps book) × IsEmptyOr (Q.leaves s.inquiry.now s.case.now.net s.case.now.log s.steps) book };
+
+    fn begin<T: Fn(u32, u32) -> bool, R: Fn(u32) -> u64>(
+        &self,
+        alloc: Global,
+        test: &Indep<T>,
+        order: Order<R>,
+        book: &mut Ledger,
+        _out: &mut (),
+    ) -> Result<Q::Answer, Memory> {
+        let solver = Solver::new(alloc, order);
+        pose_by_solver(
+            alloc,
+            self.case,
+            self.steps,
+            test,
+            solver,
+            self.inquiry,
+            book,
+        )
+    }
+}
+
+// Makes the inquiry with a test and a solver that are given.
 fn pose_by_solver<T: Fn(u32, u32) -> bool, R: Fn(u32) -> u64, Q: Inquiry>(
     alloc: Global,
     case: &Case,
@@ -111,10 +133,10 @@ fn pose_by_solver<T: Fn(u32, u32) -> bool, R: Fn(u32) -> u64, Q: Inquiry>(
     requires right { IsTest T.pre T.post test.now.test test.now.net }
     requires net { test.now.net ≡ case.now.net }
     requires unused { IsUnused R.pre R.post solver }
-    requires limits { IsWithinLimits case.now.net case.now.log steps }
+    requires may { Q.may inquiry.now case.now.net case.now.log steps }
     requires empty { book.old.entries ≡ [] }
     ensures says { IfOk result (Q.says inquiry.now case.now.net case.now.log steps book.new.entries) }
-    ensures left { LeavesQuestion case.now.net case.now.log steps (MayLearn (Q.budget inquiry.now)) book.new.entries }
+    ensures left { IsEmptyOr (Q.leaves inquiry.now case.now.net case.now.log steps) book.new.entries }
 {
     match begin(alloc, case, steps, test, solver, book) {
         Ok(parts) => {

@@ -1,6 +1,7 @@
 // The refutation of the bound below the least number of faults, as an inquiry.
 ghost use Rattle.std.specs.Prelude.{◌≡◌, ◌≤◌, ℕ, suc, Some, IfOk};
-ghost use Rattle.inquiries.specs.Begun.{ArePartsOf};
+ghost use Rattle.inquiries.specs.Begun.{ArePartsOf, HasQuestion, MayLearn};
+ghost use Rattle.least_faults.specs.Parts.{IsWithinLimits};
 ghost use Rattle.inquiries.specs.Refuted.{HasEvidence, HasEvidenceFor, IsRefutedBelow, IsRefutedFor, IsRefutedWithin, IsRefuting};
 
 use crate::least::find_least;
@@ -32,9 +33,13 @@ pub enum Refuted {
 impl Inquiry for Refutation {
     type Answer = Refuted;
 
+    ghost may = { λ s net log n. IsWithinLimits net log n };
+
     ghost says = { λ s net log n book refuted. IsRefuting net log n s.budget book refuted };
 
-    ghost budget = { λ s. Some s.budget };
+    ghost leaves = { λ s net log n book. HasQuestion net log n (MayLearn (Some s.budget)) book };
+
+    ghost fits = { λ s net log n within. within };
 
     fn ask<R: Fn(u32) -> u64>(
         &self,

@@ -1,2 +1,2 @@
-mod Weighing
+pub mod Weighing
 pub mod PricedBooks

@@ -10,6 +10,7 @@ use Rattle.des_net.specs.QuestionSize.{fault_event_count}
 use Rattle.event_costs.specs.Prices.{cost_at}
 use Rattle.event_costs.specs.declared.TheConstants.{MOST_COST}
 use Rattle.least_faults.specs.Bounds.{question_variables}
+use Rattle.least_faults.specs.Parts.{IsWithinLimits}
 use Rattle.least_faults.specs.declared.TheConstants.{MOST_SIZE}
 use Rattle.log_order.specs.Log.{Log}
 use Rattle.proof_ledger.specs.Book.{BookEntry, IsValidBook, axiomatic, axioms_of}
@@ -22,6 +23,12 @@ use Rattle.weight_counter.specs.declared.scale.Scale.{Scale}
 pub record IsWithinCosts (net : Net) (log : Log) (n : ℕ) : Type 0 where
   pub steps : n ≤ MOST_STEPS
   pub size : cost_size net log n ≤ MOST_SIZE
+
+-- so the question itself isn't, and the table has a place for each event
+pub record MayPrice (table : List (Option ℕ)) (net : Net) (log : Log) (n : ℕ) : Type 0 where
+  pub limits : IsWithinLimits net log n
+  pub costs : IsWithinCosts net log n
+  pub long : length table ≡ length net.events
 
 -- a stored closure answers on the number of each event what a table holds for it
 abbrev pub AnswersTable : {C : Type 0} → (C → ℕ → ℕ → Type 0) → C → Net → List (Option ℕ) → Type 0

@@ -1,11 +1,8 @@
-//! The least total cost, asked of a network and a log.
+//! The least total cost, as an inquiry: [`LeastCost`], by the costs of a table.
 //!
-//! - [`least_cost`] writes the question which runs explain the log into an empty book, as each inquiry has it, then clauses that weigh its faults by the costs
-//!   of a table, and asks for the least total.
-//!
-//! What is found holds by the book that is left, which is empty after want of memory.
+//! It stands above the inquiries, and not among them, so that these stand beside the search for the least total cost (`cost_least`).
 #![tactic(auto)]
 
-mod asking;
+mod least_cost;
 
-pub use asking::least_cost;
+pub use least_cost::LeastCost;

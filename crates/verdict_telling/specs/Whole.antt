@@ -1,5 +1,5 @@
 -- What is told of a log: what was found, and behind a least number of faults the verdict on each fault event.
-use Rattle.std.specs.Prelude.{◌≡◌, ◌⊎◌, ℕ, Bool, List, [], ◌∷◌, Option, Result, Ok, Err}
+use Rattle.std.specs.Prelude.{◌≡◌, ◌⊎◌, ℕ, Bool, List, [], ◌∷◌, Option, Result, Ok, Err, IsErrOf}
 use Rattle.std.specs.List.{concat, list_any}
 use Rattle.des_base.specs.Outside.{Took, TookFront}
 use Rattle.des_net.specs.Network.{Net}
@@ -14,9 +14,10 @@ use Rattle.log_order.specs.Log.{Log}
 use Rattle.proof_ledger.specs.Book.{BookEntry}
 use Rattle.report.specs.Replies.{text_of_found}
 use Rattle.step_encode.specs.FaultInputs.{fault_events}
-use Rattle.telling.specs.Telling.{TookCut}
+use Rattle.telling.specs.Telling.{RisesExactlyIf, TookCut}
 use Rattle.telling.specs.declared.each.Broken.{Broken}
 use Rattle.telling.specs.declared.each.Broken.TheVariants.{Memory, Put}
+use Rattle.verdict_telling.specs.Left.{LeavesVerdicts}
 use Rattle.verdict_telling.specs.Replied.{AreFirstJudged, is_undecided}
 use Rattle.verdict_telling.specs.declared.whole.Told.{Told}
 use Rattle.verdict_telling.specs.declared.whole.Told.TheVariants.{Judged, NotExplained, TooMany, NotDecided}
@@ -113,6 +114,12 @@ abbrev pub TellsWhole : Net → Log → ℕ → ℕ → List BookEntry → Optio
 TellsWhole net log n budget book before now rose (Ok told) = IsAllSaid net log n budget book before now told
 TellsWhole net log n budget book before now rose (Err Memory) = Took before now [] ⊎ IsBrokenOff net log n budget book before now
 TellsWhole net log n budget book before now rose (Err Put) = rose × IsCutInReply net log n budget book before now
+
+-- how telling ends, what is left in the book, and that a put failed exactly if that is answered
+pub record TellsCase (net : Net) (log : Log) (n budget : ℕ) (book : List BookEntry) (before now : Option (List ℕ)) (rose : Type 0) (failed fails : Option ℕ) (result : Result Told Broken) : Type 0 where
+  pub tells : TellsWhole net log n budget book before now rose result
+  pub left : LeavesVerdicts net log n budget book
+  pub failures : RisesExactlyIf (IsErrOf result Put) failed fails
 
 -- where all were judged that is told with whether some was left open
 abbrev pub HasJudged : Result Bool Broken → Result Told Broken → Type 0

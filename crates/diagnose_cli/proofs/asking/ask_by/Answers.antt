@@ -1,12 +1,24 @@
--- By what the inquiry may learn.
-use Rattle.std.proofs.Common.{subst, sym, Option}
-use Rattle.inquiries.specs.Begun.{LeavesQuestion, MayLearn}
+-- By what the inquiry leaves.
+use Rattle.std.proofs.Common.{List, inl, inr}
+use Rattle.des_net.specs.Network.{Net}
+use Rattle.inquiries.specs.Begun.{HasQuestion, IsEmptyOr, LeavesQuestion, MayLearn}
+use Rattle.log_order.specs.Log.{Log}
+use Rattle.proof_ledger.specs.Book.{BookEntry}
 use Rattle.diagnose_cli.proofs.asking.ask_by.Goals as goal
+
+either : (P Q : List BookEntry → Type 0) (book : List BookEntry) → (P book → Q book) → IsEmptyOr P book → IsEmptyOr Q book
+either P Q book f (inl empty) = inl empty
+either P Q book f (inr left) = inr (f left)
+
+pub pose-requires-clause-may : goal.pose-requires-clause-may
+pose-requires-clause-may g c = g.met.Q.Replying.may_always c.args.inquiry.now c.args.case.now.net c.args.case.now.log c.args.steps c.requires.limits
 
 pub returns-in_err-answer-clause-left : goal.returns-in_err-answer-clause-left
 returns-in_err-answer-clause-left g c =
-    subst (λ (b : Option _). LeavesQuestion c.args.case.now.net c.args.case.now.log c.args.steps (MayLearn b) c.pose.new.book.entries) (sym (g.met.Q.Replying.same_budget c.args.inquiry.now)) c.pose.ensures.left
+    either (g.Q.Inquiry.leaves c.args.inquiry.now c.args.case.now.net c.args.case.now.log c.args.steps) (HasQuestion c.args.case.now.net c.args.case.now.log c.args.steps (MayLearn (g.Q.Replying.question.budget (g.Q.Replying.word c.args.inquiry.now)))) c.pose.new.book.entries
+    (g.met.Q.Replying.leaves_question c.args.inquiry.now c.args.case.now.net c.args.case.now.log c.args.steps c.pose.new.book.entries) c.pose.ensures.left
 
 pub returns-clause-left : goal.returns-clause-left
 returns-clause-left g c =
-    subst (λ (b : Option _). LeavesQuestion c.args.case.now.net c.args.case.now.log c.args.steps (MayLearn b) c.pose.new.book.entries) (sym (g.met.Q.Replying.same_budget c.args.inquiry.now)) c.pose.ensures.left
+    either (g.Q.Inquiry.leaves c.args.inquiry.now c.args.case.now.net c.args.case.now.log c.args.steps) (HasQuestion c.args.case.now.net c.args.case.now.log c.args.steps (MayLearn (g.Q.Replying.question.budget (g.Q.Replying.word c.args.inquiry.now)))) c.pose.new.book.entries
+    (g.met.Q.Replying.leaves_question c.args.inquiry.now c.args.case.now.net c.args.case.now.log c.args.steps c.pose.new.book.entries) c.pose.ensures.left

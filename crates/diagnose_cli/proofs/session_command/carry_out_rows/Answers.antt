@@ -1,9 +1,25 @@
--- By the table.
-use Rattle.diagnose_cli.proofs.SessionAnswers.{failed_nothing, said_nothing}
+-- As the rows go, or by nothing where memory is wanting before.
+use Rattle.std.proofs.Common.{◌≡◌, ◌∙◌, [], ap, subst, sym}
+use Rattle.des_base.specs.Outside.{Rose}
+use Rattle.endings.specs.Puts.{Speaks}
+use Rattle.telling.proofs.Failing.{none_failed}
+use Rattle.diagnose_cli.specs.Sessions.{MaySay}
+use Rattle.diagnose_cli.proofs.SessionAnswers.{broke_before}
 use Rattle.diagnose_cli.proofs.session_command.carry_out_rows.Goals as goal
 
-pub returns-in_err-table-clause-speaks : goal.returns-in_err-table-clause-speaks
-returns-in_err-table-clause-speaks g c = said_nothing _ _ c.requires.empty _ _ _ c.from_residual.ensures.1
+pub returns-in-Ok-clause-speaks : goal.returns-in-Ok-clause-speaks
+returns-in-Ok-clause-speaks g c = c.in-Ok.ensures.says.0
 
-pub returns-in_err-table-clause-failures : goal.returns-in_err-table-clause-failures
-returns-in_err-table-clause-failures g c = failed_nothing _ c.from_residual.result c.from_residual.ensures.1
+pub returns-in-Ok-clause-failures : goal.returns-in-Ok-clause-failures
+returns-in-Ok-clause-failures g c = c.in-Ok.ensures.says.1
+
+pub returns-in-Err-clause-speaks : goal.returns-in-Err-clause-speaks
+returns-in-Err-clause-speaks g c =
+    let plan = c.args.plan.now in
+    let book = c.set_up.new.book.entries in
+    let before = c.args.out.now in
+    subst (λ (s : _). Speaks (MaySay plan.net plan.limits.steps plan.limits.budget plan.script book) (book ≡ []) (g.S.Sink.taken before) (g.S.Sink.taken s) (Rose (g.S.Sink.faults before) (g.S.Sink.faults s)) 9) (sym c.in-Err.ensures.nothing_put)
+    (broke_before _ _ (ap (λ (b : _). b.entries) c.in-Err.ensures.no_book ∙ c.requires.empty) _ _)
+
+pub returns-in-Err-clause-failures : goal.returns-in-Err-clause-failures
+returns-in-Err-clause-failures g c = none_failed _ _ _ (λ put. cc) (ap g.S.Sink.failures c.in-Err.ensures.nothing_put)

@@ -3,14 +3,14 @@ use Rattle.cost_least.specs.Searching.{HasAnsweredCosts}
 use Rattle.event_costs.specs.Prices.{cost_at}
 use Rattle.pricing.specs.LeastCost.{IsPricedBy}
 use Rattle.pricing.proofs.Weighing.{priced_by}
-use Rattle.pricing.proofs.asking.weigh_by_costs.Goals as goal
+use Rattle.pricing.proofs.least_cost.price_by.Goals as goal
 use Rattle.std.proofs.lemmas.Result.{IfOk-weaker as ok_weaker}
 
 pub returns : goal.returns
 returns g c = λ table same.
     let net = c.args.case.now.net in
     let log = c.args.case.now.log in
-    let parts = c.args.parts in
+    let parts = c.args.parts.now in
     let later = c.cheapest-cheap.new.parts in
     let stored = c.args.costs.now.cost in
     let old = c.args.book.now.entries in
