@@ -14,14 +14,14 @@ use Rattle.least_faults.proofs.Entailing.{final_entailed}
 use Rattle.least_faults.proofs.Freshness.{fresh_after, fresh_axioms}
 use Rattle.least_faults.proofs.KnownVariables.{book_below, known_back}
 use Rattle.least_faults.proofs.Posing.{poses}
-use Rattle.least_faults.proofs.Putting.{none_marked, none_final, derived_unmarked, same_axioms, learnt_no_final, no_final_in, none_joined, only_final, same_last, axioms_with_learnt}
+use Rattle.least_faults.proofs.Putting.{none_marked, none_final, derived_unmarked, same_axioms, learnt_no_final, no_final_in, none_counted, none_joined, one_counted, only_final, same_last, axioms_with_learnt}
 use Rattle.least_faults.proofs.Staying.{question_both, question_kept}
 use Rattle.answers.specs.declared.found.Best.{Best}
 use Rattle.least_faults.specs.declared.asking.Asked.{Asked}
 use Rattle.least_faults.specs.declared.asking.Asked.TheVariants.{Explained, Refuted, Spent}
 use Rattle.least_faults.specs.declared.parts.Parts.{Parts}
 use Rattle.answers.specs.Explanations.{IsExplanation}
-use Rattle.least_faults.specs.Asking.{AreAssumptions, bound_part, GoesOnReady, IsSearching, ArePut, HasAskedBy}
+use Rattle.least_faults.specs.Asking.{AreAssumptions, bound_part, GoesOnReady, IsSearching, ArePut, HasAskedBy, PutsNoFinal}
 use Rattle.least_faults.specs.Columns.{built_within, columns_for}
 use Rattle.least_faults.specs.Evidence.{IsPosed, is_final}
 use Rattle.least_faults.specs.Growing.{AddsAxioms, KeepsQuestion}
@@ -39,7 +39,7 @@ use Rattle.run_decode.specs.Faithful.{IsWithin, IsFaithful}
 use Rattle.run_decode.specs.Decoding.{IsTrueRun}
 use Rattle.run_decode.specs.QuestionAxioms.{BuiltQuestion}
 use Rattle.least_faults.proofs.Ranking.{still_ranked}
-use Rattle.sat_solve.specs.Searching.{HasAxiomVars, IsSearched, HasPut, IsRefuted, IsSpent}
+use Rattle.sat_solve.specs.Searching.{HasAxiomVars, HasLearnt, IsSearched, HasPut, IsRefuted, IsSpent}
 use Rattle.sat_solve.specs.Solving.{KeepsSize, SolverState}
 use Rattle.sat_solve.specs.declared.answer.Answer.TheVariants as solver
 use Rattle.std.proofs.lemmas.List.Elements.{Contains-append_cases as append_cases, Contains-append_left as append_left, Contains-append_right as append_right}
@@ -57,6 +57,17 @@ searching_axioms old new left adds = record {
   unmarked = λ number. none_marked number adds.axioms;
   paid = (let none = none_learnt adds.axioms in omega (arith, none));
   fresh = fresh_axioms old adds.axioms;
+}
+
+-- neither axioms nor what a search learns are final entries
+pub axioms_no_final : (old new : List BookEntry) → AddsAxioms old new → PutsNoFinal old new
+axioms_no_final old new adds = record { since = map axiomatic adds.axioms; whole = adds.more; none = none_final adds.axioms }
+
+pub learnt_alone : (old mid new : List BookEntry) → AddsAxioms old mid → HasLearnt mid new → PutsNoFinal old new
+learnt_alone old mid new adds put = record {
+  since = map axiomatic adds.axioms ++ put.since;
+  whole = put.whole ∙ ap (λ b. b ++ put.since) adds.more ∙ append_assoc old (map axiomatic adds.axioms) put.since;
+  none = none_joined (map axiomatic adds.axioms) put.since (none_final adds.axioms) (learnt_no_final put.since put.all_learnt);
 }
 
 pub both_whole : (old mid new : List BookEntry) (before after : ℕ) → (adds : AddsAxioms old mid) → (searched : IsSearched mid new before after) → new ≡ old ++ (map axiomatic adds.axioms ++ searched.since)
@@ -174,6 +185,7 @@ module _ (steps : CodedSteps) (code : CodedLog) (counter : CounterState) (vars :
   put_learnt : (asked : Asked) → IfNone bound (adds.axioms ≡ []) → list_all is_learnt searched.since ≡ true → ArePut code counter bound (map axiomatic adds.axioms ++ searched.since) asked
   put_learnt asked none all_learnt = record {
     finals = λ clause hints in'. absurd (no_final_in (map axiomatic adds.axioms ++ searched.since) clause hints (no_final all_learnt) in');
+    few = (let none = none_counted (map axiomatic adds.axioms ++ searched.since) (no_final all_learnt) in omega (arith, none));
     none = λ not. no_final all_learnt;
     unbounded = if_none bound (list_all is_learnt (map axiomatic adds.axioms ++ searched.since) ≡ true) (asked ≢ Refuted → list_all is_learnt (map axiomatic adds.axioms ++ searched.since) ≡ true) (λ p not. p) (alone bound none all_learnt);
   }
@@ -234,6 +246,7 @@ module _ (steps : CodedSteps) (code : CodedLog) (counter : CounterState) (vars :
     known = all_known;
     put = record {
       finals = λ clause hints in'. (assumed, assumptions, negates clause hints in');
+      few = (let one = ap (count_by is_final) closes ∙ one_counted (map axiomatic adds.axioms) put.put.before put.put.clause put.put.hints (none_final adds.axioms) put.put.all_learnt in omega (arith, one));
       none = λ not. absurd (refused not);
       unbounded = if_none bound (⊤) (Refuted ≢ Refuted → list_all is_learnt (map axiomatic adds.axioms ++ searched.since) ≡ true) (λ p not. absurd (refused not)) (given bound);
     };

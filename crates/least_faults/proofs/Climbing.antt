@@ -10,7 +10,7 @@ use Rattle.least_faults.proofs.Entailing.{final_entailed}
 use Rattle.least_faults.proofs.Freshness.{fresh_none, fresh_both}
 use Rattle.least_faults.proofs.KnownVariables.{known_back, known_front}
 use Rattle.least_faults.proofs.Posing.{poses}
-use Rattle.least_faults.proofs.Putting.{no_final_in, learnt_no_final, last_later, last_earlier}
+use Rattle.least_faults.proofs.Putting.{no_final_in, learnt_no_final, none_counted, last_later, last_earlier}
 use Rattle.least_faults.proofs.Telling.{tells_bound}
 use Rattle.answers.specs.declared.found.Best.{Best}
 use Rattle.answers.specs.declared.found.Found.{Found}
@@ -19,7 +19,7 @@ use Rattle.least_faults.specs.declared.asking.Asked.{Asked}
 use Rattle.least_faults.specs.declared.asking.Asked.TheVariants as asked
 use Rattle.answers.specs.Explanations.{IsExplanation}
 use Rattle.least_faults.specs.Answers.{HasConflict, HasConflictFor, IsFound, IsLeastFound, IsAbsentFound, IsManyFound, IsUndecidedFound}
-use Rattle.least_faults.specs.Ascending.{FinalsAreBelow, IsRefutedAt, HasComeToBy, HasFound}
+use Rattle.least_faults.specs.Ascending.{FinalsAreBelow, IsRefutedAt, HasComeToBy, HasFound, HasRefused}
 use Rattle.least_faults.specs.Asking.{AreAssumptions, ArePut, IsSearching, HasAskedBy, IsRefusal, IsStopped}
 use Rattle.least_faults.specs.Columns.{built_within}
 use Rattle.least_faults.specs.Evidence.{FinalsNegate, is_final, IsEvidence, IsPosed, IsRefutation, NegatesAssumed}
@@ -71,6 +71,7 @@ pub come_to_none : (code : CodedLog) (counter : CounterState) (begun : BuiltQues
 come_to_none code counter begun net log n book left = record {
   searching = searching_none book left;
   finals = λ clause hints in'. absurd (none_in_nil (final clause hints) in');
+  few = omega arith;
   below = λ j none. cc;
   needs = λ word order explains. omega arith;
 }
@@ -97,6 +98,7 @@ pub come_further : (code : CodedLog) (old new : CounterState) (begun now : Built
 come_further code old new begun now net log n k first mid last budget before after keeps at_first at_mid same_within come asked' = record {
   searching = searching_further first mid last budget before after come.searching asked'.searching;
   finals = finals_further code old new k come.searching.since asked'.searching.since keeps come.finals asked'.put.finals;
+  few = (let all = count_append is_final come.searching.since asked'.searching.since in omega (arith, all, come.few, asked'.put.few));
   below = λ j is. (let same : k ≡ j = omega (arith, is) in subst (λ i. IsRefutedAt code new net log n i begun (come.searching.since ++ asked'.searching.since)) same (record {
     assumed = asked'.means.assumed;
     assumptions = asked'.means.assumptions;
@@ -110,12 +112,17 @@ come_further code old new begun now net log n k first mid last budget before aft
         (subst (λ es. AllByRecursion (HasValues (built_within now (Some k)).vars) (clauses_of es)) come.searching.whole
         (known_front (built_within now (Some k)).vars mid asked'.searching.since (subst (λ es. AllByRecursion (HasValues (built_within now (Some k)).vars) (clauses_of es)) asked'.searching.whole asked'.known)))
 
+-- entries without a final one add none
+pub no_more : (most : ℕ) (since more : List BookEntry) → count_by is_final since ≤ most → list_any is_final more ≡ false → count_by is_final (since ++ more) ≤ most
+no_more most since more few none = (let all = count_append is_final since more in let zero = none_counted more none in omega (arith, all, zero, few))
+
 -- the bounds below k stay refuted where nothing more is
 pub come_on : (code : CodedLog) (old new : CounterState) (begun now : BuiltQuestion) (net : Net) (log : Log) (n k : ℕ) (first mid last : List BookEntry) (budget before after : ℕ) (what : Asked) → KeepsColumns old new → what ≢ asked.Refuted →
     HasComeToBy code old begun net log n k first mid budget before → HasAskedBy code new now net log n (Some k) mid last before after what → HasComeToBy code new begun net log n k first last budget after
 come_on code old new begun now net log n k first mid last budget before after what keeps not come asked' = record {
   searching = searching_further first mid last budget before after come.searching asked'.searching;
   finals = finals_same code old new k come.searching.since asked'.searching.since keeps (asked'.put.none not) come.finals;
+  few = no_more k come.searching.since asked'.searching.since come.few (asked'.put.none not);
   below = λ j is. (let found = come.below j is in record {
     assumed = found.assumed;
     assumptions = assumptions_stay code old new (Some j) found.assumed keeps found.assumptions;
@@ -252,9 +259,9 @@ module _ (steps : CodedSteps) (code : CodedLog) (counter : CounterState) (vars :
   finals_put : (bound : Option ℕ) (since : List BookEntry) (what : Asked) → ArePut code counter bound since what → FinalsNegate (whole_meanings steps code counter) since steps.net log steps.steps
   finals_put bound since what put clause hints there = let found = put.finals clause hints there in negates_assumed bound found.0 clause found.1 found.2
 
-  with_found : (left : ℕ) (searching : IsSearching first book budget left) (answer : Found) → FinalsNegate (whole_meanings steps code counter) searching.since steps.net log steps.steps → HasConflictFor (whole_meanings steps code counter) book steps.net log steps.steps answer →
+  with_found : (left : ℕ) (searching : IsSearching first book budget left) (answer : Found) → FinalsNegate (whole_meanings steps code counter) searching.since steps.net log steps.steps → count_by is_final searching.since ≤ 256 → HasConflictFor (whole_meanings steps code counter) book steps.net log steps.steps answer →
       IsFound (whole_meanings steps code counter) begun searching.since steps.net log steps.steps budget answer → HasFound (whole_meanings steps code counter) begun net log steps.steps budget first book answer
-  with_found left searching answer finals conflict is =
+  with_found left searching answer finals few conflict is =
       found_as answer (record {
         since = searching.since;
         whole = searching.whole;
@@ -262,6 +269,7 @@ module _ (steps : CodedSteps) (code : CodedLog) (counter : CounterState) (vars :
         within = (let paid = searching.paid in omega (arith, paid));
         fresh = searching.fresh;
         finals = finals;
+        finals_few = few;
         found = is;
         conflict = conflict;
       })
@@ -273,30 +281,39 @@ module _ (steps : CodedSteps) (code : CodedLog) (counter : CounterState) (vars :
       HasFound (whole_meanings steps code counter) begun net log steps.steps budget first book (Explained best)
   answers_least k left best small come given within =
       let here = back k left come in
-      with_found left here.searching (Explained best) (finals_below k here.searching.since here.finals) tt
+      with_found left here.searching (Explained best) (finals_below k here.searching.since here.finals) (omega (arith, here.few, small)) tt
       (least_found steps code counter vars log first book here.searching.since here.searching.whole parts own valid same begun at_first k best small here.below here.needs (given_back best given) within)
 
   pub answers_many : (left : ℕ) (best : Best) → HasComeToBy code counter begun net log steps.steps 256 first book budget left → IsExplanation net log steps.steps best →
       HasFound (whole_meanings steps code counter) begun net log steps.steps budget first book (Many best)
   answers_many left best come given =
       let here = back 256 left come in
-      with_found left here.searching (Many best) (finals_below 256 here.searching.since here.finals) tt
+      with_found left here.searching (Many best) (finals_below 256 here.searching.since here.finals) here.few tt
       (many_found steps code counter vars log first book here.searching.since here.searching.whole parts own valid same begun at_first best here.below here.needs (given_back best given))
 
-  pub answers_undecided : (k : ℕ) (best : Best) → IsValidBook book → HasComeToBy code counter begun net log steps.steps k first book budget 0 → IsStopped code counter (Some k) book 0 → IsExplanation net log steps.steps best → k < best.faults →
+  pub answers_undecided : (k : ℕ) (best : Best) → k ≤ 255 → IsValidBook book → HasComeToBy code counter begun net log steps.steps k first book budget 0 → IsStopped code counter (Some k) book 0 → IsExplanation net log steps.steps best → k < best.faults →
       HasFound (whole_meanings steps code counter) begun net log steps.steps budget first book (Undecided k (Some best))
-  answers_undecided k best whole come stopped given more =
+  answers_undecided k best small whole come stopped given more =
       let here = back k 0 come in
-      with_found 0 here.searching (Undecided k (Some best)) (finals_below k here.searching.since here.finals) (at_conflict (Some k) 0 stopped)
+      with_found 0 here.searching (Undecided k (Some best)) (finals_below k here.searching.since here.finals) (omega (arith, here.few, small)) (at_conflict (Some k) 0 stopped)
       (undecided_found steps code counter vars log first book here.searching.since here.searching.whole parts own valid same begun at_first k budget best whole (omega (arith, here.searching.paid)) here.finals here.below here.needs (given_back best given) more)
 
   pub answers_absent : (left : ℕ) → HasAskedBy code counter begun net log steps.steps None first book budget left asked.Refuted → HasFound (whole_meanings steps code counter) begun net log steps.steps budget first book Absent
   answers_absent left asked' =
       let here = subst (λ net'. HasAskedBy code counter begun net' log steps.steps None first book budget left asked.Refuted) (sym of_net) asked' in
-      with_found left here.searching Absent (finals_put None here.searching.since asked.Refuted here.put) tt
+      with_found left here.searching Absent (finals_put None here.searching.since asked.Refuted here.put) (omega (arith, here.put.few)) tt
       (absent_found steps code counter vars log first book here.searching.since here.searching.whole parts own valid same begun at_first here.means)
 
   pub answers_nothing : (left : ℕ) → HasAskedBy code counter begun net log steps.steps None first book budget left asked.Spent → HasFound (whole_meanings steps code counter) begun net log steps.steps budget first book (Undecided 0 None)
   answers_nothing left asked' =
-      with_found left asked'.searching (Undecided 0 None) (finals_put None asked'.searching.since asked.Spent asked'.put) (at_conflict None left asked'.means)
+      with_found left asked'.searching (Undecided 0 None) (finals_put None asked'.searching.since asked.Spent asked'.put) (omega (arith, asked'.put.few)) (at_conflict None left asked'.means)
       (nothing_found steps code counter vars log first book asked'.searching.since asked'.searching.whole parts own valid same begun at_first budget (nothing_left (count_by is_learnt asked'.searching.since) left asked'.searching.paid asked'.means.nothing) (asked'.put.unbounded spent_not))
+
+  -- where memory is wanting at a bound, the final entries are those that refute the bounds below
+  pub refuses : (old : CounterState) (k : ℕ) (since more : List BookEntry) → k ≤ 256 → KeepsColumns old counter → FinalsAreBelow code old k since → count_by is_final since ≤ k → list_any is_final more ≡ false → book ≡ first ++ (since ++ more) → HasRefused (whole_meanings steps code counter) net log steps.steps first book
+  refuses old k since more small keeps finals few none whole = record {
+    since = since ++ more;
+    whole = whole;
+    finals = subst (λ net'. FinalsNegate (whole_meanings steps code counter) (since ++ more) net' log steps.steps) of_net (finals_below k (since ++ more) (finals_same code old counter k since more keeps none finals));
+    few = (let all = no_more k since more few none in omega (arith, all, small));
+  }

@@ -1,22 +1,23 @@
 -- From the entries of a search to those of a whole answer: what came before, and the marks.
-use Rattle.std.proofs.Common.{◌≡◌, ◌∙◌, ℕ, ◌+◌, ◌-◌, true, ◌&&◌, ◌⊎◌, inl, inr, List, [], ◌∷◌, ◌++◌, length, Option, None, Some, IfNone, sym, ap, subst, arith, Contains, count_by, append-nil, append_assoc, ◌≤◌, refl}
+use Rattle.std.proofs.Common.{◌≡◌, ◌∙◌, ℕ, ◌+◌, ◌-◌, true, false, ◌&&◌, ◌⊎◌, inl, inr, List, [], ◌∷◌, ◌++◌, length, Option, None, Some, IfNone, sym, ap, subst, arith, Contains, count_by, append-nil, append_assoc, ◌≤◌, refl}
+use Rattle.std.proofs.lemmas.List.{append_cancel_left}
 use Rattle.std.proofs.lemmas.List.Elements.{filter_map-append, Contains-append_cases as append_cases}
 use Rattle.std.proofs.lemmas.List.Folds.{list_all-append}
-use Rattle.std.specs.List.{AllByRecursion, list_all}
+use Rattle.std.specs.List.{AllByRecursion, list_all, list_any}
 use Rattle.des_base.proofs.Elements.{all_append, all_change, all_split}
 use Rattle.des_net.specs.Network.{Net}
 use Rattle.least_faults.proofs.ColumnsBuilt.{vars_grow, within_none}
 use Rattle.least_faults.proofs.Freshness.{fresh_both, fresh_mark, fresh_none, known_same}
 use Rattle.least_faults.proofs.KnownVariables.{known_back, known_joined}
-use Rattle.least_faults.proofs.Putting.{learnt_no_final, no_final_in, learnt_no_axioms}
+use Rattle.least_faults.proofs.Putting.{learnt_no_final, no_final_in, none_counted, learnt_no_axioms}
 use Rattle.least_faults.proofs.Staying.{kept_by_axioms, with_axioms}
 use Rattle.answers.specs.declared.found.Best.{Best}
 use Rattle.answers.specs.declared.found.Found.{Found}
 use Rattle.answers.specs.declared.found.Found.TheVariants.{Explained, Absent, Many, Undecided}
-use Rattle.least_faults.specs.Answers.{asked_last, HasConflictFor, HaveLearntFresh, IsFound, IsAnswered}
-use Rattle.least_faults.specs.Ascending.{HasFound}
+use Rattle.least_faults.specs.Answers.{asked_last, HasConflictFor, HaveLearntFresh, IsFound, IsAnswered, IsOpenAtMost}
+use Rattle.least_faults.specs.Ascending.{HasFound, HasRefused}
 use Rattle.least_faults.specs.Columns.{built_within, columns_for}
-use Rattle.least_faults.specs.Evidence.{FinalsNegate, HasFinal, IsEvidence, IsPosed, NegatesAssumed}
+use Rattle.least_faults.specs.Evidence.{FinalsNegate, HasFinal, IsEvidence, IsPosed, NegatesAssumed, is_final}
 use Rattle.least_faults.specs.Parts.{AreParts, AreReady, built_of}
 use Rattle.log_order.specs.Log.{Log}
 use Rattle.proof_ledger.specs.Book.{BookEntry, final, mark, clauses_of, axiom_of, axioms_of, is_mark}
@@ -28,7 +29,7 @@ use Rattle.run_decode.specs.QuestionAxioms.{BuiltQuestion}
 use Rattle.prop_core.specs.VariableNames.{Meaning}
 use Rattle.prop_core.specs.declared.lit.Lit.{Lit}
 use Rattle.least_faults.specs.declared.parts.Parts.{Parts}
-use Rattle.least_faults.specs.Asking.{IsSearching}
+use Rattle.least_faults.specs.Asking.{IsSearching, PutsNoFinal}
 use Rattle.least_faults.specs.Growing.{HasGrownWithin, KeepsQuestion}
 use Rattle.run_decode.proofs.Faults.{count_append}
 use Rattle.proof_ledger.proofs.AxiomLists.{marked_axioms, marked_clauses}
@@ -116,6 +117,7 @@ found_later names begun now net log n budget left old mid new front answer same 
   within = within (count_by is_learnt front) (count_by is_learnt found.since) (count_by is_learnt (front ++ found.since)) (count_append is_learnt front found.since) found.within refl;
   fresh = fresh_both old mid front found.since whole fresh found.fresh;
   finals = finals_later names front found.since net log n all_learnt found.finals;
+  finals_few = (let all = count_append is_final front found.since in let none = none_counted front (learnt_no_final front all_learnt) in omega (arith, all, none, found.finals_few));
   conflict = found.conflict;
   found = is_found_later names begun front found.since net log n budget left answer all_learnt front_known paid (subst (λ (first : BuiltQuestion). IsFound names first found.since net log n left answer) same found.found);
 }
@@ -126,6 +128,33 @@ found_later names begun now net log n budget left old mid new front answer same 
 
     within : (one two all : ℕ) → all ≡ one + two → two ≤ left → one ≡ count_by is_learnt front → all ≤ budget
     within one two all is less count = omega (arith, is, less, count, paid)
+
+-- ---- without an answer
+
+pub refused_none : (names : List (ℕ × Meaning)) (net : Net) (log : Log) (n : ℕ) (old new : List BookEntry) → PutsNoFinal old new → HasRefused names net log n old new
+refused_none names net log n old new quit = record {
+  since = quit.since;
+  whole = quit.whole;
+  finals = λ clause hints there. absurd (no_final_in quit.since clause hints quit.none there);
+  few = (let none = none_counted quit.since quit.none in omega (arith, none));
+}
+
+-- entries without a final one before
+pub refused_later : (names : List (ℕ × Meaning)) (net : Net) (log : Log) (n : ℕ) (old mid new front : List BookEntry) → mid ≡ old ++ front → list_any is_final front ≡ false → HasRefused names net log n mid new → HasRefused names net log n old new
+refused_later names net log n old mid new front whole none refused = record {
+  since = front ++ refused.since;
+  whole = refused.whole ∙ ap (λ b. b ++ refused.since) whole ∙ append_assoc old front refused.since;
+  finals = λ clause hints there. by clause hints (append_cases front refused.since (final clause hints) there);
+  few = (let all = count_append is_final front refused.since in let zero = none_counted front none in omega (arith, all, zero, refused.few));
+}
+  where
+    by : (clause : Clause) (hints : List ℕ) → Contains front (final clause hints) ⊎ Contains refused.since (final clause hints) → NegatesAssumed names net log n clause
+    by clause hints (inl here) = absurd (no_final_in front clause hints none here)
+    by clause hints (inr here) = refused.finals clause hints here
+
+-- what was put is that of a search that has found something
+pub refused_by : (names : List (ℕ × Meaning)) (first : BuiltQuestion) (net : Net) (log : Log) (n budget : ℕ) (old new : List BookEntry) (answer : Found) → HasFound names first net log n budget old new answer → HasRefused names net log n old new
+refused_by names first net log n budget old new answer found = record { since = found.since; whole = found.whole; finals = found.finals; few = found.finals_few }
 
 -- ---- marks
 
@@ -191,8 +220,27 @@ answered names begun now net log n budget old opened searched new answer at_firs
   within = found.within;
   fresh = subst (λ earlier. HaveLearntFresh earlier found.since) begins found.fresh;
   finals = found.finals;
+  finals_few = found.finals_few;
   few = few;
   conflict = conflict_closed names searched new 1 net log n answer ends found.conflict;
   asks = (asks.0, subst (λ axioms. IsPosed names axioms asks.0 net log n None) (sym (ap axioms_of ends ∙ marked_axioms searched 1)) asks.1);
   found = subst (λ (first : BuiltQuestion). IsFound names first found.since net log n budget answer) same found.found;
 }
+
+-- a search behind the opening mark that has no answer leaves the question open
+pub left_open : (names : List (ℕ × Meaning)) (net : Net) (log : Log) (n budget left : ℕ) (old opened searched : List BookEntry) → opened ≡ old ++ mark 0 ∷ [] → length names ≤ variable_bound net log n → ((assumed : List Lit) × IsPosed names (axioms_of searched) assumed net log n None) →
+    IsSearching opened searched budget left → HasRefused names net log n opened searched → IsOpenAtMost names net log n budget old searched
+left_open names net log n budget left old opened searched begins few asks searching refused = inr (record {
+  since = searching.since;
+  whole = searching.whole ∙ ap (λ b. b ++ searching.since) begins ∙ append_assoc old (mark 0 ∷ []) searching.since;
+  unmarked = searching.unmarked;
+  within = (let paid = searching.paid in omega (arith, paid));
+  fresh = subst (λ earlier. HaveLearntFresh earlier searching.since) begins searching.fresh;
+  finals = subst (λ entries. FinalsNegate names entries net log n) same refused.finals;
+  finals_few = subst (λ entries. count_by is_final entries ≤ 256) same refused.few;
+  few = few;
+  asks = asks;
+})
+  where
+    same : refused.since ≡ searching.since
+    same = append_cancel_left opened refused.since searching.since (sym refused.whole ∙ searching.whole)

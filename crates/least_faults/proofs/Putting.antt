@@ -1,5 +1,5 @@
 -- What a question puts into a book: no marks, so many learnt entries, and at most one final one.
-use Rattle.std.proofs.Common.{◌≡◌, ◌∙◌, ℕ, Bool, true, false, ◌||◌, ◌⊎◌, inl, inr, List, [], ◌∷◌, ◌++◌, map, refl, sym, ap, subst, Contains, count_by, append-nil, append_assoc, Option}
+use Rattle.std.proofs.Common.{◌≡◌, ◌∙◌, ℕ, Bool, true, false, ◌||◌, ◌⊎◌, inl, inr, List, [], ◌∷◌, ◌++◌, map, refl, sym, ap, subst, Contains, count_by, append-nil, append_assoc, Option, arith}
 use Rattle.std.proofs.lemmas.List.Elements.{filter_map-append, Contains-append_cases as append_cases}
 use Rattle.std.proofs.lemmas.List.Folds.{list_any-append}
 use Rattle.std.specs.List.{AllByRecursion, list_any, list_all}
@@ -16,6 +16,7 @@ use Rattle.des_net.specs.Network.{Net}
 use Rattle.log_order.specs.Log.{Log}
 use Rattle.run_decode.specs.Faithful.{IsFaithful}
 use Rattle.run_decode.specs.QuestionAxioms.{BuiltQuestion}
+use Rattle.run_decode.proofs.Faults.{count_append}
 use Rattle.sat_solve.proofs.Derived.{derived_no_axioms}
 
 -- ---- axioms
@@ -166,3 +167,19 @@ last_is d (x ∷ front) e = last_is x front e
 -- the last entries of one list are one
 pub same_last : (front other : List BookEntry) (c d : Clause) (hs gs : List ℕ) → front ++ final c hs ∷ [] ≡ other ++ final d gs ∷ [] → c ≡ d
 same_last front other c d hs gs h = final_is c d hs gs (sym (last_is (mark 0) front (final c hs)) ∙ ap (last_of (mark 0)) h ∙ last_is (mark 0) other (final d gs))
+
+-- ---- how many final entries there are
+
+pub none_counted : (since : List BookEntry) → list_any is_final since ≡ false → count_by is_final since ≡ 0
+none_counted [] none = refl
+none_counted (axiomatic c ∷ since) none = none_counted since none
+none_counted (learnt c hints ∷ since) none = none_counted since none
+none_counted (final c hints ∷ since) none = cc
+none_counted (mark k ∷ since) none = none_counted since none
+
+-- none stands before the one that closes learnt entries
+pub one_counted : (front before : List BookEntry) (clause : Clause) (hints : List ℕ) → list_any is_final front ≡ false → list_all is_learnt before ≡ true → count_by is_final ((front ++ before) ++ final clause hints ∷ []) ≡ 1
+one_counted front before clause hints none all_learnt =
+    let all = count_append is_final (front ++ before) (final clause hints ∷ []) in
+    let first = none_counted (front ++ before) (none_joined front before none (learnt_no_final before all_learnt)) in
+    omega (arith, all, first)

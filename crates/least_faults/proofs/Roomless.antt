@@ -95,6 +95,7 @@ answered_roomless names first net log n budget old new answer is = record {
   within = is.within;
   fresh = is.fresh;
   finals = is.finals;
+  finals_few = is.finals_few;
   few = is.few;
   asks = is.asks;
   found = found_roomless names first is.since net log n budget answer is.found;

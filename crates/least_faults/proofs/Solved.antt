@@ -3,7 +3,7 @@ use Rattle.std.proofs.Common.{◌≡◌, ◌∙◌, ℕ, List, Option, IfNone, I
 use Rattle.card_counter.specs.Counting.{true_count}
 use Rattle.card_counter.specs.CounterState.{CounterState}
 use Rattle.des_net.specs.Network.{Net, IsNetwork}
-use Rattle.least_faults.proofs.Asked.{asked_explained, asked_refuted, asked_spent, begun_true, none_added, true_run}
+use Rattle.least_faults.proofs.Asked.{asked_explained, asked_refuted, asked_spent, begun_true, learnt_alone, none_added, true_run}
 use Rattle.least_faults.proofs.Assuming.{assumed_below, compatible}
 use Rattle.least_faults.proofs.Posing.{poses}
 use Rattle.least_faults.proofs.Putting.{same_axioms}
@@ -12,7 +12,7 @@ use Rattle.answers.specs.declared.found.Best.{Best}
 use Rattle.least_faults.specs.declared.asking.Asked.TheVariants.{Explained, Refuted, Spent}
 use Rattle.least_faults.specs.declared.parts.Parts.{Parts}
 use Rattle.answers.specs.Explanations.{IsExplanation}
-use Rattle.least_faults.specs.Asking.{AreAssumed, HasAsked, IsSolvedWithin}
+use Rattle.least_faults.specs.Asking.{AreAssumed, HasAsked, IsSolvedWithin, PutsNoFinal}
 use Rattle.least_faults.specs.Columns.{built_within}
 use Rattle.least_faults.specs.Evidence.{IsPosed}
 use Rattle.least_faults.specs.Growing.{AddsAxioms, KeepsQuestion}
@@ -101,6 +101,10 @@ module _ {R : Type 0} (may : R → ℕ → Type 0) (gives : R → ℕ → ℕ �
   shown_spent same =
       asked_spent parts.step parts.code.coded parts.counter parts.vars net log is.mid coded belong.of_steps network valid belong.same_log bound is.assumed is.are.assumptions old new before after is.axioms is.searched is.known (built_of begun old) refl is.are.columns listed counted
       (none_added bound old is.mid is.axioms is.none) (put_for solver.Spent same) (says solver.Spent same)
+
+  -- nothing is refuted where there is a model
+  pub shown_none : answer ≡ solver.Sat → PutsNoFinal old new
+  shown_none same = let put = put_for solver.Sat same in learnt_alone old is.mid new is.axioms (record { since = put.since; whole = put.whole; all_learnt = put.put })
 
   pub shown_run : answer ≡ solver.Sat → IsTrueRun parts.step parts.code.coded (value_in parts.solver.assignment)
   shown_run same =

@@ -102,7 +102,7 @@ given_still net log old new best keeps = subst (λ (s : CodedSteps). IsExplanati
 -- ---- from bound to bound
 
 -- by the counter alone the parts differ
-come_by_counter : {R : Type 0} {book entries : List BookEntry} (old new : Parts R) (begun : BuiltQuestion) (net : Net) (log : Log) (k : ℕ) (first last : List BookEntry) (budget left : ℕ) → KeepsQuestion old new book entries →
+pub come_by_counter : {R : Type 0} {book entries : List BookEntry} (old new : Parts R) (begun : BuiltQuestion) (net : Net) (log : Log) (k : ℕ) (first last : List BookEntry) (budget left : ℕ) → KeepsQuestion old new book entries →
     HasComeTo old begun net log k first last budget left → HasComeToBy new.code.coded old.counter begun net log new.step.steps k first last budget left
 come_by_counter old new begun net log k first last budget left keeps come =
     subst (λ (s : CodedSteps). HasComeToBy new.code.coded old.counter begun net log s.steps k first last budget left) (sym keeps.step)

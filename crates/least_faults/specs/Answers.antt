@@ -1,12 +1,12 @@
 -- What is found of the least number of faults that explains a log, and what each answer means.
-use Rattle.std.specs.Prelude.{◌≡◌, ℕ, suc, ◌<◌, ◌≤◌, Bool, true, not, ◌||◌, List, [], ◌∷◌, ◌++◌, length, Option, Some, None, IfSome, IfNone, count_by, ⊤}
+use Rattle.std.specs.Prelude.{◌≡◌, ◌⊎◌, ℕ, suc, ◌<◌, ◌≤◌, Bool, true, not, ◌||◌, List, [], ◌∷◌, ◌++◌, length, Option, Some, None, IfSome, IfNone, count_by, ⊤}
 use Rattle.std.specs.List.{list_all}
 use Rattle.des_net.specs.Network.{Net}
 use Rattle.answers.specs.Explanations.{IsExplanation}
 use Rattle.answers.specs.declared.found.Best.{Best}
 use Rattle.answers.specs.declared.found.Found.{Found}
 use Rattle.answers.specs.declared.found.Found.TheVariants.{Explained, Absent, Many, Undecided}
-use Rattle.least_faults.specs.Evidence.{FinalsNegate, HasFinal, IsEvidence, IsPosed}
+use Rattle.least_faults.specs.Evidence.{FinalsNegate, HasFinal, IsEvidence, IsPosed, is_final}
 use Rattle.log_order.specs.Log.{Log}
 use Rattle.proof_ledger.specs.Book.{BookEntry, mark, axioms_of, clauses_of, is_mark}
 use Rattle.proof_ledger.specs.Fresh.{AreFresh, is_learnt}
@@ -86,7 +86,7 @@ HasConflictFor meanings book net log n Absent = ⊤
 HasConflictFor meanings book net log n (Many best) = ⊤
 HasConflictFor meanings book net log n (Undecided lo best) = HasConflict meanings book net log n (asked_last lo best)
 
--- The axioms of the book were those of the question as it was built first. The question was opened by a mark 0 and closed by a mark 1, and the entries between show what was found. At most as many clauses as the budget says were learnt, each of them fresh, and each final one has no literals but negations of assumptions. The axioms of the whole book pose the question without a bound, by these meanings and under some assumptions; the meanings are no more than network, log and n allow.
+-- The axioms of the book were those of the question as it was built first. The question was opened by a mark 0 and closed by a mark 1, and the entries between show what was found. At most as many clauses as the budget says were learnt, each of them fresh. Each final one has no literals but negations of assumptions, and there is at most one for each bound from 0 to 255. The axioms of the whole book pose the question without a bound, by these meanings and under some assumptions; the meanings are no more than network, log and n allow.
 pub record IsAnswered (meanings : List (ℕ × Meaning)) (first : BuiltQuestion) (net : Net) (log : Log) (n budget : ℕ) (old new : List BookEntry) (answer : Found) : Type 0 where
   pub begun : first.axioms ≡ axioms_of old
   pub since : List BookEntry
@@ -95,7 +95,26 @@ pub record IsAnswered (meanings : List (ℕ × Meaning)) (first : BuiltQuestion)
   pub within : count_by is_learnt since ≤ budget
   pub fresh : HaveLearntFresh (old ++ mark 0 ∷ []) since
   pub finals : FinalsNegate meanings since net log n
+  pub finals_few : count_by is_final since ≤ 256
   pub few : length meanings ≤ variable_bound net log n
   pub asks : (assumed : List Lit) × IsPosed meanings (axioms_of new) assumed net log n None
   pub found : IsFound meanings first since net log n budget answer
   pub conflict : HasConflictFor meanings new net log n answer
+
+-- ---- without an answer
+
+-- The question was opened by a mark 0 and has no answer: no mark stands behind that one. At most as many clauses as the budget says were learnt, each of them fresh. Each final one has no literals but negations of assumptions, and there is at most one for each bound from 0 to 255. The axioms of the whole book pose the question, as they do where it is answered.
+pub record IsLeftOpen (meanings : List (ℕ × Meaning)) (net : Net) (log : Log) (n budget : ℕ) (old new : List BookEntry) : Type 0 where
+  pub since : List BookEntry
+  pub whole : new ≡ old ++ mark 0 ∷ since
+  pub unmarked : (number : ℕ) → count_by (is_mark number) since ≡ 0
+  pub within : count_by is_learnt since ≤ budget
+  pub fresh : HaveLearntFresh (old ++ mark 0 ∷ []) since
+  pub finals : FinalsNegate meanings since net log n
+  pub finals_few : count_by is_final since ≤ 256
+  pub few : length meanings ≤ variable_bound net log n
+  pub asks : (assumed : List Lit) × IsPosed meanings (axioms_of new) assumed net log n None
+
+-- Out of memory a question is open at most: the book is as it was, or the question is left open in it.
+abbrev pub IsOpenAtMost : List (ℕ × Meaning) → Net → Log → ℕ → ℕ → List BookEntry → List BookEntry → Type 0
+IsOpenAtMost meanings net log n budget old new = (new ≡ old) ⊎ IsLeftOpen meanings net log n budget old new

@@ -6,7 +6,7 @@ use Rattle.answers.specs.declared.found.Found.{Found}
 use Rattle.least_faults.specs.declared.parts.Parts.{Parts}
 use Rattle.least_faults.specs.Answers.{HasConflictFor, HaveLearntFresh, IsFound}
 use Rattle.least_faults.specs.Asking.{AreAssumptions, IsSearching}
-use Rattle.least_faults.specs.Evidence.{FinalsNegate, IsRefutation}
+use Rattle.least_faults.specs.Evidence.{FinalsNegate, IsRefutation, is_final}
 use Rattle.log_encode.specs.CodedLog.{CodedLog}
 use Rattle.log_order.specs.Log.{Log}
 use Rattle.proof_ledger.specs.Book.{BookEntry, final, is_mark}
@@ -28,10 +28,11 @@ pub record IsRefutedAt (code : CodedLog) (counter : CounterState) (net : Net) (l
   pub assumptions : AreAssumptions code counter (Some k) assumed
   pub refuted : IsRefutation first since net log n (Some k) assumed
 
--- The bounds below k are refuted, by entries since then, when the question was built so.
+-- The bounds below k are refuted, each by one of the final entries since then at most, when the question was built so.
 pub record HasComeToBy (code : CodedLog) (counter : CounterState) (first : BuiltQuestion) (net : Net) (log : Log) (n k : ℕ) (old new : List BookEntry) (budget_old budget_new : ℕ) : Type 0 where
   pub searching : IsSearching old new budget_old budget_new
   pub finals : FinalsAreBelow code counter k searching.since
+  pub few : count_by is_final searching.since ≤ k
   pub below : (j : ℕ) → k ≡ suc j → IsRefutedAt code counter net log n j first searching.since
   pub needs : NeedsFaults net log n k
 
@@ -39,7 +40,7 @@ pub record HasComeToBy (code : CodedLog) (counter : CounterState) (first : Built
 abbrev pub HasComeTo : {R : Type 0} → Parts R → BuiltQuestion → Net → Log → ℕ → List BookEntry → List BookEntry → ℕ → ℕ → Type 0
 HasComeTo parts first net log k old new budget_old budget_new = HasComeToBy parts.code.coded parts.counter first net log parts.step.steps k old new budget_old budget_new
 
--- The entries that were put show what was found, and no more clauses were learnt than the budget says, each of them fresh. No other clause was derived but final ones, of negated assumptions alone.
+-- The entries that were put show what was found, and no more clauses were learnt than the budget says, each of them fresh. No other clause was derived but final ones, of negated assumptions alone, at most one for each bound.
 pub record HasFound (meanings : List (ℕ × Meaning)) (first : BuiltQuestion) (net : Net) (log : Log) (n budget : ℕ) (old new : List BookEntry) (answer : Found) : Type 0 where
   pub since : List BookEntry
   pub whole : new ≡ old ++ since
@@ -47,5 +48,13 @@ pub record HasFound (meanings : List (ℕ × Meaning)) (first : BuiltQuestion) (
   pub within : count_by is_learnt since ≤ budget
   pub fresh : HaveLearntFresh old since
   pub finals : FinalsNegate meanings since net log n
+  pub finals_few : count_by is_final since ≤ 256
   pub found : IsFound meanings first since net log n budget answer
   pub conflict : HasConflictFor meanings new net log n answer
+
+-- A search that ended without an answer: each final entry that it put negates assumptions, and there is at most one for each bound.
+pub record HasRefused (meanings : List (ℕ × Meaning)) (net : Net) (log : Log) (n : ℕ) (old new : List BookEntry) : Type 0 where
+  pub since : List BookEntry
+  pub whole : new ≡ old ++ since
+  pub finals : FinalsNegate meanings since net log n
+  pub few : count_by is_final since ≤ 256

@@ -83,6 +83,12 @@ pub record IsSearching (old new : List BookEntry) (budget_old budget_new : ℕ) 
   pub paid : count_by is_learnt since + budget_new ≡ budget_old
   pub fresh : HaveLearntFresh old since
 
+-- no final entry was put: so it is where a question has no answer yet
+pub record PutsNoFinal (old new : List BookEntry) : Type 0 where
+  pub since : List BookEntry
+  pub whole : new ≡ old ++ since
+  pub none : list_any is_final since ≡ false
+
 -- The parts stand ready and keep their question, and what was put is that of a search.
 pub record GoesOnReady {R : Type 0} (may : R → ℕ → Type 0) (gives : R → ℕ → ℕ → Type 0) (old new : Parts R) (old_book new_book : List BookEntry) (budget_old budget_new : ℕ) : Type 0 where
   pub ready : AreReady may gives new new_book
@@ -101,9 +107,10 @@ pub record IsSolvedWithin {R : Type 0} (before : CounterState) (parts : Parts R)
   pub put : HasPut mid new answer
   pub says : IsAnswer parts.solver.assignment new assumed budget_new answer
 
--- Each final entry negates assumptions with the bound alone, and there is none where nothing is refuted. Without a bound learnt entries alone are put then.
+-- Each final entry negates assumptions with the bound alone, and there is at most one, and none where nothing is refuted. Without a bound learnt entries alone are put then.
 pub record ArePut (code : CodedLog) (counter : CounterState) (bound : Option ℕ) (since : List BookEntry) (asked : Asked) : Type 0 where
   pub finals : (clause : Clause) (hints : List ℕ) → Contains since (final clause hints) → (assumed : List Lit) × AreAssumptions code counter bound assumed × NegatesOnly assumed clause
+  pub few : count_by is_final since ≤ 1
   pub none : asked ≢ Refuted → list_any is_final since ≡ false
   pub unbounded : IfNone bound (asked ≢ Refuted → list_all is_learnt since ≡ true)
 

@@ -1,16 +1,17 @@
 -- What in a book shows that nothing explains a log within a bound on the faults.
-use Rattle.std.specs.Prelude.{◌≡◌, ℕ, Bool, true, false, List, [], ◌∷◌, ◌++◌, Option, Contains}
+use Rattle.std.specs.Prelude.{◌≡◌, ℕ, false, List, [], ◌∷◌, ◌++◌, Option, Contains}
 use Rattle.std.specs.List.{AllByRecursion, list_any}
 use Rattle.des_net.specs.Network.{Net}
 use Rattle.least_faults.specs.Columns.{built_within}
 use Rattle.log_order.specs.Log.{Log}
-use Rattle.proof_ledger.specs.Book.{BookEntry, axiomatic, learnt, final, mark, axioms_of, clauses_of}
+use Rattle.proof_ledger.specs.Book.{BookEntry, final, axioms_of, clauses_of}
 use Rattle.prop_core.specs.Clauses.{Clause, HasValues, NegatesOnly}
 use Rattle.prop_core.specs.VariableNames.{Meaning, HasEachOnce, ReadsAs}
 use Rattle.prop_core.specs.declared.lit.Lit.{Lit}
 use Rattle.run_decode.specs.Drawn.{IsInstance, assumption_literals}
 use Rattle.run_decode.specs.Faithful.{IsFaithful}
 use Rattle.run_decode.specs.QuestionAxioms.{BuiltQuestion}
+pub use Rattle.sat_solve.specs.Searching.{is_final}
 
 -- By these meanings clauses and assumptions ask which explanations there are within the bound: they are faithful, each clause is of a family, and what is assumed are, as a set, the guards and the bound.
 pub record IsPosed (meanings : List (ℕ × Meaning)) (clauses : List Clause) (assumed : List Lit) (net : Net) (log : Log) (n : ℕ) (bound : Option ℕ) : Type 0 where
@@ -18,13 +19,6 @@ pub record IsPosed (meanings : List (ℕ × Meaning)) (clauses : List Clause) (a
   pub once : HasEachOnce meanings
   pub instances : AllByRecursion (IsInstance net log n meanings) clauses
   pub assumes : ReadsAs meanings assumed (assumption_literals net log n bound)
-
--- the entry is a final clause, as a refuted question leaves it
-abbrev pub is_final : BookEntry → Bool
-is_final (axiomatic clause) = false
-is_final (learnt clause hints) = false
-is_final (final clause hints) = true
-is_final (mark number) = false
 
 -- some final entry has no literals but negations of assumptions
 pub record HasFinal (entries : List BookEntry) (assumed : List Lit) : Type 0 where

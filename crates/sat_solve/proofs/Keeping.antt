@@ -125,3 +125,7 @@ searched_put (Err error) assumed old new budget c e = subst (λ (b : LedgerState
 pub over_put : {E : Type 0} (r : Result ℕ E) (waiting : List Bool) (vars spare : ℕ) (t u : TrailState) (old new : LedgerState) → AreOver waiting vars spare t old.entries → WithRoom t u → OnErr r (new ≡ old) → OnErr r (AreOver waiting vars spare u new.entries)
 over_put (Ok id) waiting vars spare t u old new o w e = tt
 over_put (Err error) waiting vars spare t u old new o w e = subst (λ (b : LedgerState). AreOver waiting vars spare u b.entries) (sym e) (over_roomier waiting vars spare t u old.entries o w)
+
+pub unput : {E : Type 0} (r : Result ℕ E) (old new : LedgerState) → OnErr r (new ≡ old) → OnErr r (new.entries ≡ old.entries)
+unput (Ok id) old new e = tt
+unput (Err error) old new e = ap (λ (b : LedgerState). b.entries) e

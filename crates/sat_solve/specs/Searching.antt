@@ -20,6 +20,13 @@ is_learnt_or_final (learnt clause hints) = true
 is_learnt_or_final (final clause hints) = true
 is_learnt_or_final (mark number) = false
 
+-- the entry is a final clause, as a refuted question leaves it
+abbrev pub is_final : BookEntry → Bool
+is_final (axiomatic clause) = false
+is_final (learnt clause hints) = false
+is_final (final clause hints) = true
+is_final (mark number) = false
+
 -- Derived entries alone were put, and as many learnt ones as the budget was lowered by. Where all variables occurred in axioms, they
 -- still do, and each learnt clause was fresh.
 pub record IsSearched (old new : List BookEntry) (budget_old budget_new : ℕ) : Type 0 where
@@ -35,6 +42,12 @@ pub record IsSearched (old new : List BookEntry) (budget_old budget_new : ℕ) :
 -- learnt entries alone
 abbrev pub AreLearnt : List BookEntry → Type 0
 AreLearnt entries = list_all is_learnt entries ≡ true
+
+-- A search that has no answer yet has put learnt entries alone: a final entry comes with an answer.
+pub record HasLearnt (old new : List BookEntry) : Type 0 where
+  pub since : List BookEntry
+  pub whole : new ≡ old ++ since
+  pub all_learnt : AreLearnt since
 
 -- learnt entries, and then one final entry
 pub record IsClosedByFinal (since : List BookEntry) : Type 0 where

@@ -17,7 +17,7 @@ pub use Rattle.sat_solve.specs.Widening.{widened, KeepsValues}
 use Rattle.sat_solve.specs.declared.answer.Answer.{Answer}
 use Rattle.sat_solve.specs.declared.search.Search.{Search}
 use Rattle.sat_solve.specs.declared.answer.Answer.TheVariants.{Sat, Unsat, Spent}
-use Rattle.sat_solve.specs.Searching.{HasAxiomVars, AreLearnt, HasPut, IsRefuted, IsSpent}
+use Rattle.sat_solve.specs.Searching.{HasAxiomVars, HasLearnt, HasPut, IsRefuted, IsSpent}
 
 -- The order of the variables, the clauses that were adopted, the values of the last model, the number of variables, and for
 -- how many more clauses there is room.
@@ -213,12 +213,6 @@ pub record LearnsOne (old new : List BookEntry) (budget_old budget_new : ℕ) : 
   pub paid : budget_new + 1 ≡ budget_old
   pub fresh : HasAxiomVars old → IsFreshClause old clause
   pub known : list_all (λ l. is_known_var (clauses_of old) l.var) clause ≡ true
-
--- a search that goes on has put learnt entries alone
-pub record HasLearnt (old new : List BookEntry) : Type 0 where
-  pub since : List BookEntry
-  pub whole : new ≡ old ++ since
-  pub all_learnt : AreLearnt since
 
 -- a final entry is put, of negated assumptions alone
 pub record IsClosed (assumed : List Lit) (old new : List BookEntry) (number : ℕ) : Type 0 where

@@ -138,6 +138,7 @@ impl<R: Fn(u32) -> u64> Search<R> {
         ensures searched { (budget : ℕ) → IsSearched book.old.entries book.new.entries budget budget }
         ensures ended { (budget : ℕ) → IfOk result (λ id. IsEnded assumptions.now self.new book.old.entries book.new.entries budget (Answer.Unsat id)) }
         ensures err { OnErr result (IsOver self.new book.new.entries) }
+        ensures unput { OnErr result (book.new.entries ≡ book.old.entries) }
     {
         trail_state(&self.propagator);
         self.propagator.reserve_clauses(self.spare + 1)?;
@@ -161,6 +162,7 @@ impl<R: Fn(u32) -> u64> Search<R> {
         ensures searched { (budget : ℕ) → IsSearched book.old.entries book.new.entries budget budget }
         ensures ended { (budget : ℕ) → IfOk result (λ id. IsEnded assumptions.now self.new book.old.entries book.new.entries budget (Answer.Unsat id)) }
         ensures err { OnErr result (IsOver self.new book.new.entries) }
+        ensures unput { OnErr result (book.new.entries ≡ book.old.entries) }
     {
         trail_state(&self.propagator);
         self.propagator.reserve_clauses(self.spare + 1)?;

@@ -4,7 +4,7 @@ ghost use Rattle.std.specs.Prelude.{◌≡◌, ℕ, ◌<◌, ◌+◌, IfOk, IfSo
 ghost use Rattle.proof_ledger.specs.Book.{BookEntry};
 ghost use Rattle.sat_prop.specs.Levels.{level_of};
 ghost use Rattle.sat_prop.specs.Quiet.{IsConflict, AreQuiet};
-ghost use Rattle.sat_solve.specs.Searching.{IsSearched};
+ghost use Rattle.sat_solve.specs.Searching.{HasLearnt, IsSearched};
 ghost use Rattle.sat_solve.specs.Solving.{IsUnder, IsOver, IsUnderWay, KeepsVariables, to_do, LearnsOne, GoesOn, HasDecided, IsEnded};
 
 use crate::advice::Advice;
@@ -46,6 +46,7 @@ impl<R: Fn(u32) -> u64> Search<R> {
         ensures kept { KeepsVariables self.old self.new }
         ensures ended { IfOk result (IsEnded assumptions.now self.new book.old.entries book.new.entries budget.new) }
         ensures err { OnErr result (IsOver self.new book.new.entries) }
+        ensures quit { OnErr result (HasLearnt book.old.entries book.new.entries) }
     {
         self.taken = 0;
         'more: loop {
@@ -69,6 +70,7 @@ impl<R: Fn(u32) -> u64> Search<R> {
         ensures less { IfOk result (λ answer. IfNone answer (to_do budget.new self.new.propagator < to_do budget.old self.old.propagator)) }
         ensures ended { IfOk result (λ answer. IfSome answer (IsEnded assumptions.now self.new book.old.entries book.new.entries budget.new)) }
         ensures err { OnErr result (IsOver self.new book.new.entries) }
+        ensures unput { OnErr result (book.new.entries ≡ book.old.entries) }
     {
         trail_state(&self.propagator);
         let found = self.propagator.propagate(book.clauses());
@@ -95,6 +97,7 @@ impl<R: Fn(u32) -> u64> Search<R> {
         ensures lowered { IfOk result (λ answer. IfNone answer (budget.new + 1 ≡ budget.old)) }
         ensures ended { IfOk result (λ answer. IfSome answer (IsEnded assumptions.now self.new book.old.entries book.new.entries budget.new)) }
         ensures err { OnErr result (IsOver self.new book.new.entries) }
+        ensures unput { OnErr result (book.new.entries ≡ book.old.entries) }
     {
         trail_state(&self.propagator);
         match further_decision(self.propagator.trail(), assumptions) {
@@ -127,6 +130,7 @@ impl<R: Fn(u32) -> u64> Search<R> {
         ensures kept { KeepsVariables self.old self.new }
         ensures searched { IsSearched book.old.entries book.new.entries budget.old budget.new }
         ensures learnt { OnOk result (LearnsOne book.old.entries book.new.entries budget.old budget.new) }
+        ensures unput { OnErr result (book.new.entries ≡ book.old.entries) }
     {
         trail_state(&self.propagator);
         self.propagator.reserve_clauses(self.spare + 1)?;
@@ -157,6 +161,7 @@ impl<R: Fn(u32) -> u64> Search<R> {
         ensures decided { IfOk result (λ answer. IfNone answer (HasDecided assumptions.now self.old self.new book.old.entries book.new.entries)) }
         ensures ended { (budget : ℕ) → IfOk result (λ answer. IfSome answer (IsEnded assumptions.now self.new book.old.entries book.new.entries budget)) }
         ensures err { OnErr result (IsOver self.new book.new.entries) }
+        ensures unput { OnErr result (book.new.entries ≡ book.old.entries) }
     {
         trail_state(&self.propagator);
         let trail = self.propagator.trail();

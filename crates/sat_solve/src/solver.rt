@@ -6,7 +6,7 @@ ghost use Rattle.proof_ledger.specs.Book.{clauses_of};
 ghost use Rattle.sat_order.specs.Rank.{IsRank, IsRanked};
 ghost use Rattle.sat_prop.specs.Changes.{IsFront};
 ghost use Rattle.sat_prop.specs.Levels.{level_of};
-ghost use Rattle.sat_solve.specs.Searching.{IsSearched, HasPut, IsAnswer};
+ghost use Rattle.sat_solve.specs.Searching.{IsSearched, HasLearnt, HasPut, IsAnswer};
 ghost use Rattle.sat_solve.specs.Solving.{HasReserved, IsUnreserved, KeepsSize, AllJoined, HasAttached};
 
 use crate::advice::Advice;
@@ -130,6 +130,7 @@ impl<R: Fn(u32) -> u64> Solver<R> {
         requires compatible { AreConsistent assumptions.now }
         ensures searched { IsSearched book.old.entries book.new.entries budget.old budget.new }
         ensures put { IfOk result (HasPut book.old.entries book.new.entries) }
+        ensures quit { OnErr result (HasLearnt book.old.entries book.new.entries) }
         ensures answer { IfOk result (IsAnswer self.new.assignment book.new.entries assumptions.now budget.new) }
         ensures adopted { self.new.adopted ≡ clauses_of book.new.entries }
         ensures kept { KeepsSize self.old self.new }

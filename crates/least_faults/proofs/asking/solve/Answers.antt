@@ -1,4 +1,6 @@
-use Rattle.least_faults.proofs.Asked.{goes_by_search, searching_axioms}
+use Rattle.des_base.proofs.Results.{on_err}
+use Rattle.std.proofs.lemmas.Result.{on_err_weaker}
+use Rattle.least_faults.proofs.Asked.{axioms_no_final, goes_by_search, learnt_alone, searching_axioms}
 use Rattle.least_faults.proofs.Solved.{can_search, solved}
 use Rattle.least_faults.proofs.asking.solve.Goals as goal
 
@@ -22,3 +24,9 @@ pub returns-clause-solved : goal.returns-clause-solved
 returns-clause-solved g c =
     solved c.args.parts.now.counter c.assumptions.new.parts c.solve.new.self c.args.within _ _ _ _ _ _ _ c.solve.result c.in_ok-assumed.ensures.assumed c.as_slice.ensures.value c.assumptions.ensures.axioms c.assumptions.ensures.none c.assumptions.ensures.ready.known c.solve.ensures.searched c.solve.ensures.put
     c.solve.ensures.answer
+
+pub returns-in_err-assumed-clause-quit : goal.returns-in_err-assumed-clause-quit
+returns-in_err-assumed-clause-quit g c = on_err _ _ (axioms_no_final c.args.book.now.entries c.assumptions.new.book.entries c.assumptions.ensures.axioms)
+
+pub returns-clause-quit : goal.returns-clause-quit
+returns-clause-quit g c = on_err_weaker c.solve.result (learnt_alone c.args.book.now.entries c.assumptions.new.book.entries c.solve.new.book.entries c.assumptions.ensures.axioms) c.solve.ensures.quit

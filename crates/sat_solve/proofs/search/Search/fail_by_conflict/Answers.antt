@@ -4,7 +4,7 @@ use Rattle.sat_prop.specs.TrailState.{TrailState}
 use Rattle.sat_solve.specs.Solving.{IsClosed}
 use Rattle.sat_solve.proofs.WaitingVariables.{room_max, room_given}
 use Rattle.sat_solve.proofs.Clashing.{closed_put, assumed_same, none_among}
-use Rattle.sat_solve.proofs.Keeping.{over_roomier, over_put, searched_put, ended_put}
+use Rattle.sat_solve.proofs.Keeping.{over_roomier, over_put, searched_put, ended_put, unput}
 use Rattle.sat_solve.proofs.search.Search.fail_by_conflict.Given as given
 use Rattle.sat_solve.proofs.search.Search.fail_by_conflict.Goals as goal
 use Rattle.des_base.proofs.Results.{on_err}
@@ -37,3 +37,6 @@ returns-clause-err g c =
     let s = c.args.self.now in
     let w = room_max s.propagator c.reserve_clauses.new.self (s.spare + 1) c.in_ok-reserve_clauses.ensures.ok in
     over_put c.put_final.result s.order.waiting s.vars s.spare s.propagator c.reserve_clauses.new.self c.args.book.now c.put_final.new.self c.requires.over w c.put_final.ensures.err
+
+pub returns-clause-unput : goal.returns-clause-unput
+returns-clause-unput g c = unput c.put_final.result c.args.book.now c.put_final.new.self c.put_final.ensures.err

@@ -1,6 +1,8 @@
-use Rattle.std.proofs.Common.{subst}
+use Rattle.des_base.proofs.Results.{on_err}
+use Rattle.std.proofs.Common.{subst, sym}
 use Rattle.std.specs.Prelude.{Option, IfSome, IfNone}
 use Rattle.sat_solve.specs.declared.answer.Answer.{Answer}
+use Rattle.sat_solve.specs.Searching.{HasLearnt}
 use Rattle.sat_solve.specs.Solving.{GoesOn, IsEnded}
 use Rattle.sat_solve.proofs.Booking.{searched_both}
 use Rattle.sat_solve.proofs.Keeping.{keeps_both}
@@ -40,3 +42,7 @@ more-preserved g c =
       searched = searched_both c.args.book.now.entries c.more.book.entries c.step.new.book.entries c.args.budget.now c.more.budget c.step.new.budget c.more.invariant.searched c.step.ensures.searched;
       learnt = learnt_both c.args.book.now.entries c.more.book.entries c.step.new.book.entries c.more.invariant.learnt w.learnt;
     }
+
+pub returns-in_err-answer-clause-quit : goal.returns-in_err-answer-clause-quit
+returns-in_err-answer-clause-quit g c = on_err _ _ (subst (HasLearnt c.args.book.now.entries) (sym c.in_err-answer.ensures.unput) c.more.invariant.learnt
+    )

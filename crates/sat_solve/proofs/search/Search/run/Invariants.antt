@@ -1,5 +1,5 @@
-use Rattle.sat_solve.specs.Searching.{IsSearched}
-use Rattle.sat_solve.specs.Solving.{HasLearnt, IsUnderWay, KeepsVariables, to_do}
+use Rattle.sat_solve.specs.Searching.{HasLearnt, IsSearched}
+use Rattle.sat_solve.specs.Solving.{IsUnderWay, KeepsVariables, to_do}
 use Rattle.sat_solve.proofs.search.Search.run.Given as goal
 
 abbrev pub invariant-more : goal.invariant-more
