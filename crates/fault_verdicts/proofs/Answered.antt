@@ -11,15 +11,16 @@ use Rattle.fault_verdicts.proofs.Events.{few_true, run_has, true_run_of}
 use Rattle.fault_verdicts.proofs.Going.{belong_on, ready_after_search}
 use Rattle.fault_verdicts.proofs.Judged.{asked_beside, open_found, possible_found, refuted_found}
 use Rattle.fault_verdicts.specs.Asked.{IsPosedOf, some_step_clauses}
-use Rattle.fault_verdicts.specs.Judged.{FinalsNegateAssumed, IsBestRun, IsJudged, IsVerdict}
-use Rattle.fault_verdicts.specs.Judging.{AreAssumedOf, IsSolvedAbout, IsSaidBy, IsVerdictShown, KeepsStepsAndLog, bound_for, verdict_of}
+use Rattle.fault_verdicts.specs.Judged.{FinalsNegateAssumed, IsBestRun, IsJudged, IsVerdict, FinalsNegateAsked, IsOpenAtMost, IsQuestionAbout}
+use Rattle.fault_verdicts.specs.Judging.{AreAssumedOf, IsSolvedAbout, IsSaidBy, IsVerdictShown, KeepsStepsAndLog, bound_for, verdict_of, IsUnanswered}
 use Rattle.answers.specs.declared.verdict.Verdict.{Verdict}
 use Rattle.answers.specs.declared.verdict.Verdict.TheVariants.{Possible, Open}
 use Rattle.least_faults.proofs.Asked.{axioms_true, searching_both}
 use Rattle.least_faults.proofs.Assuming.{negates_only}
 use Rattle.least_faults.proofs.Entailing.{final_entailed}
-use Rattle.least_faults.proofs.Putting.{learnt_no_final, no_final_in, none_final, none_joined, only_final, same_last}
-use Rattle.least_faults.specs.Evidence.{HasFinal}
+use Rattle.least_faults.proofs.Putting.{learnt_no_final, no_final_in, none_counted, none_final, none_joined, one_counted, only_final, same_last}
+use Rattle.least_faults.specs.Evidence.{HasFinal, is_final}
+use Rattle.least_faults.specs.Asking.{IsSearching, PutsNoFinal}
 use Rattle.least_faults.specs.Growing.{AddsAxioms}
 use Rattle.least_faults.specs.Parts.{BelongTo}
 use Rattle.least_faults.specs.declared.parts.Parts.{Parts}
@@ -107,6 +108,22 @@ finals_by old mid new before after values assumed adds searched Sat put is = non
 finals_by old mid new before after values assumed adds searched (Unsat number) put is = one_put old mid new before after assumed adds searched number put is
 finals_by old mid new before after values assumed adds searched Spent put is = none_put old mid new before after assumed adds searched put.since put.whole put.put
 
+-- at most one
+few_put : (old mid new : List BookEntry) (before after : ℕ) (adds : AddsAxioms old mid) (searched : IsSearched mid new before after) (since : List BookEntry) → new ≡ mid ++ since → AreLearnt since → count_by is_final (map axiomatic adds.axioms ++ searched.since) ≤ 1
+few_put old mid new before after adds searched since whole all =
+    let same : since ≡ searched.since = append_cancel_left mid since searched.since (sym whole ∙ searched.whole) in
+    let none = none_counted (map axiomatic adds.axioms ++ searched.since) (none_joined (map axiomatic adds.axioms) searched.since (none_final adds.axioms) (learnt_no_final searched.since (subst AreLearnt same all))) in
+    omega (arith, none)
+
+few_by : (old mid new : List BookEntry) (before after : ℕ) (adds : AddsAxioms old mid) (searched : IsSearched mid new before after) (answer : Answer) → HasPut mid new answer → count_by is_final (map axiomatic adds.axioms ++ searched.since) ≤ 1
+few_by old mid new before after adds searched Sat put = few_put old mid new before after adds searched put.since put.whole put.put
+few_by old mid new before after adds searched (Unsat number) put =
+    let same : put.since ≡ searched.since = append_cancel_left mid put.since searched.since (sym put.whole ∙ searched.whole) in
+    let whole = ap (λ xs. map axiomatic adds.axioms ++ xs) (sym same ∙ put.put.whole) ∙ sym (append_assoc (map axiomatic adds.axioms) put.put.before (final put.put.clause put.put.hints ∷ [])) in
+    let one = ap (count_by is_final) whole ∙ one_counted (map axiomatic adds.axioms) put.put.before put.put.clause put.put.hints (none_final adds.axioms) put.put.all_learnt in
+    omega (arith, one)
+few_by old mid new before after adds searched Spent put = few_put old mid new before after adds searched put.since put.whole put.put
+
 said_by : (old mid new : List BookEntry) (before after : ℕ) (values : List Bool) (assumed : List Lit) (adds : AddsAxioms old mid) (searched : IsSearched mid new before after) (answer : Answer) → HasPut mid new answer → IsAnswer values new assumed after answer → IsSaidBy values (map axiomatic adds.axioms ++ searched.since) new assumed after answer
 said_by old mid new before after values assumed adds searched Sat put is = is
 said_by old mid new before after values assumed adds searched (Unsat number) put is = ends old mid new before after assumed adds searched number put is
@@ -129,6 +146,7 @@ solved may gives parts solver k e there assumed slice old mid new before after (
   };
   searching = searching_both old mid new before after adds searched are.ready.beside.known;
   finals = finals_by old mid new before after solver.assignment assumed adds searched answer put (subst (λ (xs : List Lit). IsAnswer solver.assignment new xs after answer) same is);
+  few = few_by old mid new before after adds searched answer put;
   says = said_by old mid new before after solver.assignment assumed adds searched answer put (subst (λ (xs : List Lit). IsAnswer solver.assignment new xs after answer) same is);
 }
 
@@ -146,11 +164,19 @@ module _ {R : Type 0} (may : R → ℕ → Type 0) (gives : R → ℕ → ℕ �
   has : HasPosed (axioms_of new) is.assumed net log parts.step.steps k e there
   has = has_posed may gives parts new net log k e there is.assumed is.are belong_now network valid known
 
+  abbrev asked_now : IsQuestionAbout (axioms_of new) net log parts.step.steps k e first
+  asked_now = record { question = has.question; asked = asked_beside first e has.question there told has.is_for; assumed = is.assumed; posed = has.posed }
+
+  -- without a verdict
+  pub shown_unanswered : IsUnanswered net log parts.step.steps k e first old new
+  shown_unanswered = record { since = is.searching.since; whole = is.searching.whole; finals = λ clause hints in'. (asked_now, is.finals clause hints in'); few = is.few }
+
   with_verdict : (verdict : Verdict) → IsVerdict (axioms_of new) (clauses_of new) old is.searching.since net log parts.step.steps k e before first verdict → IsVerdictShown net log parts.step.steps k e first before after old new verdict
   with_verdict verdict found = record {
     searching = is.searching;
-    asked = record { question = has.question; asked = asked_beside first e has.question there told has.is_for; assumed = is.assumed; posed = has.posed };
+    asked = asked_now;
     finals = is.finals;
+    few = is.few;
     found = found;
   }
 
@@ -213,7 +239,37 @@ judged net log n k e budget left first old opened asked new verdict begins close
     posed = subst (λ axioms. IsPosedOf axioms is.asked.assumed net log n k e is.asked.question) (sym (ap axioms_of closes ∙ marked_axioms asked 1)) is.asked.posed;
   };
   finals = is.finals;
+  few = is.few;
   found = subst (λ axioms. IsVerdict axioms (clauses_of new) (old ++ mark 0 ∷ []) is.searching.since net log n k e budget first verdict) (sym (ap axioms_of closes ∙ marked_axioms asked 1))
       (subst (λ clauses. IsVerdict (axioms_of asked) clauses (old ++ mark 0 ∷ []) is.searching.since net log n k e budget first verdict) (sym (ap clauses_of closes ∙ marked_clauses asked 1))
       (subst (λ b. IsVerdict (axioms_of asked) (clauses_of asked) b is.searching.since net log n k e budget first verdict) begins is.found));
 }
+
+-- ---- without a verdict
+
+pub unanswered_none : (net : Net) (log : Log) (n k e : ℕ) (first : List RunStep) (old new : List BookEntry) → PutsNoFinal old new → IsUnanswered net log n k e first old new
+unanswered_none net log n k e first old new quit = record {
+  since = quit.since;
+  whole = quit.whole;
+  finals = λ clause hints in'. absurd (no_final_in quit.since clause hints quit.none in');
+  few = (let none = none_counted quit.since quit.none in omega (arith, none));
+}
+
+-- where there is one that can't be closed
+pub unanswered_shown : (net : Net) (log : Log) (n k e left after : ℕ) (first : List RunStep) (old new : List BookEntry) (verdict : Verdict) → IsVerdictShown net log n k e first left after old new verdict → IsUnanswered net log n k e first old new
+unanswered_shown net log n k e left after first old new verdict is = record { since = is.searching.since; whole = is.searching.whole; finals = λ clause hints in'. (is.asked, is.finals clause hints in'); few = is.few }
+
+-- behind the opening mark the question is left open
+pub left_open : (net : Net) (log : Log) (n k e budget left : ℕ) (first : List RunStep) (old opened asked : List BookEntry) → opened ≡ old ++ mark 0 ∷ [] → IsSearching opened asked budget left → IsUnanswered net log n k e first opened asked → IsOpenAtMost net log n k e budget first old asked
+left_open net log n k e budget left first old opened asked begins searching is = inr (record {
+  since = searching.since;
+  whole = searching.whole ∙ ap (λ b. b ++ searching.since) begins ∙ append_assoc old (mark 0 ∷ []) searching.since;
+  unmarked = searching.unmarked;
+  within = (let paid = searching.paid in omega (arith, paid));
+  fresh = subst (λ b. AreFresh b searching.since (count_by is_learnt searching.since)) begins searching.fresh;
+  finals = subst (FinalsNegateAsked (axioms_of asked) net log n k e first) same is.finals;
+  few = subst (λ (entries : List BookEntry). count_by is_final entries ≤ 1) same is.few;
+})
+  where
+    same : is.since ≡ searching.since
+    same = append_cancel_left opened is.since searching.since (sym is.whole ∙ searching.whole)

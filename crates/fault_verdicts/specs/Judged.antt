@@ -1,12 +1,12 @@
 -- A verdict, and what the entries since its question was opened show.
-use Rattle.std.specs.Prelude.{◌≡◌, ◌↔◌, ℕ, ◌≤◌, List, [], ◌∷◌, ◌++◌, Contains, count_by}
+use Rattle.std.specs.Prelude.{◌≡◌, ◌⊎◌, ◌↔◌, ℕ, ◌≤◌, List, [], ◌∷◌, ◌++◌, Contains, count_by}
 use Rattle.des_net.specs.Network.{Net}
 use Rattle.fault_verdicts.specs.Asked.{Question, without, with_event, IsPosedOf}
 use Rattle.fault_verdicts.specs.Verdicts.{IsBest, IsCertain, IsExcluded, IsPossible}
 use Rattle.answers.specs.declared.verdict.Verdict.{Verdict}
 use Rattle.answers.specs.declared.verdict.Verdict.TheVariants.{Certain, Excluded, Possible, Open}
 use Rattle.least_faults.specs.Answers.{HaveLearntFresh}
-use Rattle.least_faults.specs.Evidence.{HasFinal}
+use Rattle.least_faults.specs.Evidence.{HasFinal, is_final}
 use Rattle.log_order.specs.Log.{Log}
 use Rattle.proof_ledger.specs.Book.{BookEntry, final, mark, axioms_of, clauses_of, is_mark}
 use Rattle.proof_ledger.specs.Fresh.{AreFresh, is_learnt}
@@ -77,7 +77,7 @@ IsVerdict axioms clauses earlier since net log n k e budget first Excluded = IsE
 IsVerdict axioms clauses earlier since net log n k e budget first (Possible other) = IsPossibleFound net log n k e first other
 IsVerdict axioms clauses earlier since net log n k e budget first Open = IsOpenFound axioms clauses earlier since net log n k e budget first
 
--- The question was opened by a mark 0 and closed by a mark 1, and the entries between show the verdict. Whatever it is, all axioms of the book pose the question, with some assumptions that each final entry negates. At most as many clauses as the budget says were learnt, each of them fresh.
+-- The question was opened by a mark 0 and closed by a mark 1, and the entries between show the verdict. Whatever it is, all axioms of the book pose the question, with some assumptions that each final entry negates, of which there is at most one. At most as many clauses as the budget says were learnt, each of them fresh.
 pub record IsJudged (net : Net) (log : Log) (n k e budget : ℕ) (first : List RunStep) (old new : List BookEntry) (verdict : Verdict) : Type 0 where
   pub since : List BookEntry
   pub whole : new ≡ old ++ mark 0 ∷ since ++ mark 1 ∷ []
@@ -86,4 +86,25 @@ pub record IsJudged (net : Net) (log : Log) (n k e budget : ℕ) (first : List R
   pub fresh : HaveLearntFresh (old ++ mark 0 ∷ []) since
   pub asked : IsQuestionAbout (axioms_of new) net log n k e first
   pub finals : FinalsNegateAssumed asked.assumed since
+  pub few : count_by is_final since ≤ 1
   pub found : IsVerdict (axioms_of new) (clauses_of new) (old ++ mark 0 ∷ []) since net log n k e budget first verdict
+
+-- ---- without a verdict
+
+-- Where there is a final entry, the axioms pose the question about the event, with assumptions that it negates.
+abbrev pub FinalsNegateAsked : List Clause → Net → Log → ℕ → ℕ → ℕ → List RunStep → List BookEntry → Type 0
+FinalsNegateAsked axioms net log n k e first entries = (clause : Clause) (hints : List ℕ) → Contains entries (final clause hints) → (asked : IsQuestionAbout axioms net log n k e first) × NegatesOnly asked.assumed clause
+
+-- The question was opened by a mark 0 and has no verdict: no mark stands behind that one. At most as many clauses as the budget says were learnt, each of them fresh. There is at most one final entry, which negates what the question assumes.
+pub record IsLeftOpen (net : Net) (log : Log) (n k e budget : ℕ) (first : List RunStep) (old new : List BookEntry) : Type 0 where
+  pub since : List BookEntry
+  pub whole : new ≡ old ++ mark 0 ∷ since
+  pub unmarked : (number : ℕ) → count_by (is_mark number) since ≡ 0
+  pub within : count_by is_learnt since ≤ budget
+  pub fresh : HaveLearntFresh (old ++ mark 0 ∷ []) since
+  pub finals : FinalsNegateAsked (axioms_of new) net log n k e first since
+  pub few : count_by is_final since ≤ 1
+
+-- Out of memory the question about the event is open at most: the book is as it was, or the question is left open in it.
+abbrev pub IsOpenAtMost : Net → Log → ℕ → ℕ → ℕ → ℕ → List RunStep → List BookEntry → List BookEntry → Type 0
+IsOpenAtMost net log n k e budget first old new = (new ≡ old) ⊎ IsLeftOpen net log n k e budget first old new

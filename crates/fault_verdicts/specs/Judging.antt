@@ -1,15 +1,15 @@
 -- The question about one event on its way: what is made and assumed for it, and what is asked of the solver.
-use Rattle.std.specs.Prelude.{◌≡◌, ℕ, zero, suc, ◌+◌, ◌*◌, ◌≤◌, ◌==◌, Bool, true, false, List, [], ◌∷◌, ◌++◌, length, map, Option, None, Some, Contains}
+use Rattle.std.specs.Prelude.{◌≡◌, ℕ, zero, suc, ◌+◌, ◌*◌, ◌≤◌, ◌==◌, Bool, true, false, List, [], ◌∷◌, ◌++◌, length, map, Option, None, Some, Contains, count_by}
 use Rattle.card_counter.specs.CounterState.{CounterState, positive}
 use Rattle.des_base.specs.Lists.{numbers_below}
 use Rattle.des_net.specs.Network.{Net}
 use Rattle.fault_verdicts.specs.Asked.{no_step_literals}
-use Rattle.fault_verdicts.specs.Judged.{FinalsNegateAssumed, IsQuestionAbout, IsVerdict}
+use Rattle.fault_verdicts.specs.Judged.{FinalsNegateAsked, FinalsNegateAssumed, IsQuestionAbout, IsVerdict}
 use Rattle.fault_verdicts.specs.Ready.{AreReadyWith}
 use Rattle.answers.specs.declared.verdict.Verdict.{Verdict}
 use Rattle.answers.specs.declared.verdict.Verdict.TheVariants.{Certain, Excluded}
 use Rattle.least_faults.specs.Asking.{AreAssumptions, IsSearching}
-use Rattle.least_faults.specs.Evidence.{HasFinal}
+use Rattle.least_faults.specs.Evidence.{HasFinal, is_final}
 use Rattle.least_faults.specs.Growing.{KeepsColumns}
 use Rattle.least_faults.specs.declared.parts.Parts.{Parts}
 use Rattle.log_order.specs.Log.{Log}
@@ -76,12 +76,13 @@ IsSaidBy values since book assumed left Sat = IsModel values book assumed
 IsSaidBy values since book assumed left (Unsat number) = HasFinal since assumed
 IsSaidBy values since book assumed left Spent = IsSpent book assumed left
 
--- The solver was asked under what is assumed of the event, and says this. Each final entry that it put negates that.
+-- The solver was asked under what is assumed of the event, and says this. It put at most one final entry, which negates that.
 pub record IsSolvedAbout {R : Type 0} (may : R → ℕ → Type 0) (gives : R → ℕ → ℕ → Type 0) (parts : Parts R) (k e : ℕ) (there : Bool) (old new : List BookEntry) (left_old left_new : ℕ) (answer : Answer) : Type 0 where
   pub assumed : List Lit
   pub are : AreAssumedOf may gives parts new k e there assumed
   pub searching : IsSearching old new left_old left_new
   pub finals : FinalsNegateAssumed assumed searching.since
+  pub few : count_by is_final searching.since ≤ 1
   pub says : IsSaidBy parts.solver.assignment searching.since new assumed left_new answer
 
 -- the step has this event
@@ -94,9 +95,17 @@ abbrev pub verdict_of : Bool → Verdict
 verdict_of true = Certain
 verdict_of false = Excluded
 
--- The entries that were put show the verdict, by what was left of the budget, and all axioms pose the question, whose assumptions each final entry negates; each clause that was learnt was fresh.
+-- The entries that were put show the verdict, by what was left of the budget, and all axioms pose the question, whose assumptions a final entry negates; there is at most one. Each clause that was learnt was fresh.
 pub record IsVerdictShown (net : Net) (log : Log) (n k e : ℕ) (first : List RunStep) (left_old left_new : ℕ) (old new : List BookEntry) (verdict : Verdict) : Type 0 where
   pub searching : IsSearching old new left_old left_new
   pub asked : IsQuestionAbout (axioms_of new) net log n k e first
   pub finals : FinalsNegateAssumed asked.assumed searching.since
+  pub few : count_by is_final searching.since ≤ 1
   pub found : IsVerdict (axioms_of new) (clauses_of new) old searching.since net log n k e left_old first verdict
+
+-- It ended without a verdict: at most one final entry was put, which negates what the question assumes.
+pub record IsUnanswered (net : Net) (log : Log) (n k e : ℕ) (first : List RunStep) (old new : List BookEntry) : Type 0 where
+  pub since : List BookEntry
+  pub whole : new ≡ old ++ since
+  pub finals : FinalsNegateAsked (axioms_of new) net log n k e first since
+  pub few : count_by is_final since ≤ 1

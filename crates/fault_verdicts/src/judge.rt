@@ -1,9 +1,9 @@
 // Fault events that are judged one after another, over one book.
-ghost use Rattle.std.specs.Prelude.{◌≡◌, ◌<◌, ◌≤◌, length, true, IfOk};
+ghost use Rattle.std.specs.Prelude.{◌≡◌, ◌<◌, ◌≤◌, length, true, IfOk, OnErr};
 ghost use Rattle.des_base.specs.declared.TheConstants.{MOST_STEPS};
 ghost use Rattle.des_net.specs.Network.{is_fault};
 ghost use Rattle.fault_verdicts.specs.Judged.{IsBestRun};
-ghost use Rattle.fault_verdicts.specs.Judges.{IsEventJudged, KeepsMatter};
+ghost use Rattle.fault_verdicts.specs.Judges.{IsEventJudged, IsLeftUnjudged, KeepsMatter};
 ghost use Rattle.fault_verdicts.specs.Ready.{AreReadyForVerdicts};
 ghost use Rattle.least_faults.specs.Growing.{HasGrownWithin};
 ghost use Rattle.least_faults.specs.Parts.{BelongTo};
@@ -83,6 +83,7 @@ impl<'a, R: Fn(u32) -> u64> Judge<'a, R> {
         ensures kept { KeepsMatter self.old self.new }
         ensures grown { HasGrownWithin self.old.matter.budget self.old.book self.new.book }
         ensures judged { IfOk result (IsEventJudged self.old.matter event self.old.book self.new.book) }
+        ensures unjudged { OnErr result (IsLeftUnjudged self.old.matter event self.old.book self.new.book) }
     {
         judge_kept(self.about, &mut self.kept, event)
     }

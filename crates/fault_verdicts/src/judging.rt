@@ -1,11 +1,11 @@
 // One question about one fault event.
-ghost use Rattle.std.specs.Prelude.{◌≡◌, ◌<◌, ◌≤◌, ◌↔◌, Contains, true, length, IfOk};
+ghost use Rattle.std.specs.Prelude.{◌≡◌, ◌<◌, ◌≤◌, ◌↔◌, Contains, true, length, IfOk, OnErr};
 ghost use Rattle.des_base.specs.declared.TheConstants.{MOST_STEPS};
 ghost use Rattle.des_net.specs.Network.{is_fault};
-ghost use Rattle.fault_verdicts.specs.Judged.{IsBestRun, IsJudged};
-ghost use Rattle.fault_verdicts.specs.Judging.{AreAssumedOf, IsSolvedAbout, KeepsStepsAndLog, IsVerdictShown, has_this, verdict_of};
+ghost use Rattle.fault_verdicts.specs.Judged.{IsBestRun, IsJudged, IsOpenAtMost};
+ghost use Rattle.fault_verdicts.specs.Judging.{AreAssumedOf, IsSolvedAbout, IsUnanswered, KeepsStepsAndLog, IsVerdictShown, has_this, verdict_of};
 ghost use Rattle.fault_verdicts.specs.Ready.{AreReadyForVerdicts};
-ghost use Rattle.least_faults.specs.Asking.{IsSearching};
+ghost use Rattle.least_faults.specs.Asking.{IsSearching, PutsNoFinal};
 ghost use Rattle.least_faults.specs.Growing.{AddsAxioms, HasGrownWithin};
 ghost use Rattle.least_faults.specs.Parts.{BelongTo};
 ghost use Rattle.replay.specs.Traced.{event_of, word_of};
@@ -52,6 +52,7 @@ pub fn verdict<R: Fn(u32) -> u64>(
     ensures goes_on { KeepsStepsAndLog 1 parts.old parts.new }
     ensures grown { HasGrownWithin budget book.old.entries book.new.entries }
     ensures judged { IfOk result (IsJudged net.now log.now parts.new.step.steps k event budget first.now book.old.entries book.new.entries) }
+    ensures unanswered { OnErr result (IsOpenAtMost net.now log.now parts.new.step.steps k event budget first.now book.old.entries book.new.entries) }
 {
     let about = About { net, log, alloc };
     let mut left = budget;
@@ -91,6 +92,7 @@ fn ask<R: Fn(u32) -> u64>(
     ensures goes_on { KeepsStepsAndLog 1 parts.old parts.new }
     ensures searching { IsSearching book.old.entries book.new.entries left.old left.new }
     ensures asked { IfOk result (IsVerdictShown about.entry.net.now about.entry.log.now parts.new.step.steps k event first.now left.old left.new book.old.entries book.new.entries) }
+    ensures quit { OnErr result (IsUnanswered about.entry.net.now about.entry.log.now parts.new.step.steps k event first.now book.old.entries book.new.entries) }
 {
     about.net.is_built();
     about.log.is_whole();
@@ -131,6 +133,7 @@ fn solve<R: Fn(u32) -> u64>(
     ensures goes_on { KeepsStepsAndLog 1 parts.old parts.new }
     ensures searching { IsSearching book.old.entries book.new.entries left.old left.new }
     ensures solved { IfOk result (IsSolvedAbout R.pre R.post parts.new k event there book.old.entries book.new.entries left.old left.new) }
+    ensures quit { OnErr result (PutsNoFinal book.old.entries book.new.entries) }
 {
     about.net.is_built();
     about.log.is_whole();

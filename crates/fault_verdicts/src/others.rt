@@ -1,8 +1,8 @@
 // An event is judged by a run that was found before, or by a question.
-ghost use Rattle.std.specs.Prelude.{◌≡◌, ◌<◌, ◌≤◌, Contains, length, true, IfOk, IfSome};
+ghost use Rattle.std.specs.Prelude.{◌≡◌, ◌<◌, ◌≤◌, Contains, length, true, IfOk, IfSome, OnErr};
 ghost use Rattle.des_net.specs.Network.{is_fault};
 ghost use Rattle.fault_verdicts.specs.Judged.{IsPossibleFound};
-ghost use Rattle.fault_verdicts.specs.Judges.{AddsPossible, DiffersIn, IsEventJudged, IsJudgeOf, IsReadyToJudge, KeepsSteps, matter_of};
+ghost use Rattle.fault_verdicts.specs.Judges.{AddsPossible, DiffersIn, IsEventJudged, IsJudgeOf, IsLeftUnjudged, IsReadyToJudge, KeepsSteps, matter_of};
 ghost use Rattle.least_faults.specs.Growing.{HasGrownWithin};
 
 use crate::judging::{has_event, verdict};
@@ -28,6 +28,7 @@ pub fn judge_kept<R: Fn(u32) -> u64>(
     ensures stays { KeepsSteps kept.old kept.new }
     ensures grown { HasGrownWithin about.entry.budget kept.old.book.entries kept.new.book.entries }
     ensures judged { IfOk result (IsEventJudged (matter_of about.entry.net.now about.entry.log.now about.entry.best.now about.entry.budget kept.old) event kept.old.book.entries kept.new.book.entries) }
+    ensures unjudged { OnErr result (IsLeftUnjudged (matter_of about.entry.net.now about.entry.log.now about.entry.best.now about.entry.budget kept.old) event kept.old.book.entries kept.new.book.entries) }
 {
     let witness = shown(about, kept, event)?;
     match witness {
@@ -76,6 +77,7 @@ fn ask_kept<R: Fn(u32) -> u64>(
     ensures stays { KeepsSteps kept.old kept.new }
     ensures grown { HasGrownWithin about.entry.budget kept.old.book.entries kept.new.book.entries }
     ensures judged { IfOk result (IsEventJudged (matter_of about.entry.net.now about.entry.log.now about.entry.best.now about.entry.budget kept.old) event kept.old.book.entries kept.new.book.entries) }
+    ensures unjudged { OnErr result (IsLeftUnjudged (matter_of about.entry.net.now about.entry.log.now about.entry.best.now about.entry.budget kept.old) event kept.old.book.entries kept.new.book.entries) }
 {
     if kept.parts.vars.count() > MOST_VARIABLES {
         return Err(Memory);

@@ -1,5 +1,6 @@
+use Rattle.des_base.proofs.Results.{on_err}
 use Rattle.std.proofs.Common.{subst, sym}
-use Rattle.fault_verdicts.proofs.Answered.{shown_open, shown_possible, shown_refuted, shown_true_run}
+use Rattle.fault_verdicts.proofs.Answered.{shown_open, shown_possible, shown_refuted, shown_true_run, shown_unanswered, unanswered_none}
 use Rattle.fault_verdicts.proofs.Going.{belong_on}
 use Rattle.fault_verdicts.proofs.judging.ask.Goals as goal
 use Rattle.fault_verdicts.specs.Judging.{IsVerdictShown}
@@ -29,3 +30,12 @@ returns-in_ok-decode-in-Sat-clause-asked g c =
     shown_possible _ _ c.args.parts.now c.solve.new.parts _ _ c.args.k c.args.event c.args.first.now c.has_event-there.result c.args.book.now.entries c.solve.new.book.entries c.args.left.now c.solve.new.left c.in_ok-answer.answer
     c.solve.ensures.goes_on c.requires.belong c.requires.best c.has_event-there.ensures c.is_built.ensures.network c.is_whole.ensures.whole.valid c.requires.known c.in_ok-answer.ensures.solved c.assignment.result.now c.assignment.ensures.value c.in-Sat.is
     c.in_ok-decode-in-Sat.field-0 decoded.matched decoded.explains decoded.faults decoded.run
+
+pub returns-in_err-answer-clause-quit : goal.returns-in_err-answer-clause-quit
+returns-in_err-answer-clause-quit g c = on_err _ _ (unanswered_none _ _ _ _ _ _ _ _ c.in_err-answer.ensures.quit)
+
+pub returns-in_err-decode-in-Sat-clause-quit : goal.returns-in_err-decode-in-Sat-clause-quit
+returns-in_err-decode-in-Sat-clause-quit g c =
+    on_err _ _ (shown_unanswered _ _ c.args.parts.now c.solve.new.parts _ _ c.args.k c.args.event c.args.first.now c.has_event-there.result c.args.book.now.entries c.solve.new.book.entries c.args.left.now c.solve.new.left c.in_ok-answer.answer
+    c.solve.ensures.goes_on c.requires.belong c.requires.best c.has_event-there.ensures c.is_built.ensures.network c.is_whole.ensures.whole.valid c.requires.known c.in_ok-answer.ensures.solved
+    )

@@ -1,10 +1,12 @@
+use Rattle.des_base.proofs.Results.{on_err}
 use Rattle.std.proofs.Common.{◌≡◌, ◌<◌, true, arith, length, subst, sym}
 use Rattle.des_net.specs.Network.{Net, is_fault}
 use Rattle.fault_verdicts.proofs.Answered.{solved}
 use Rattle.fault_verdicts.proofs.Asking.{can_search}
 use Rattle.fault_verdicts.proofs.Going.{belong_on, goes_both, goes_by_solver, ready_after_search}
 use Rattle.fault_verdicts.proofs.judging.solve.Goals as goal
-use Rattle.least_faults.proofs.Asked.{searching_axioms, searching_both}
+use Rattle.least_faults.proofs.Asked.{axioms_no_final, learnt_alone, searching_axioms, searching_both}
+use Rattle.std.proofs.lemmas.Result.{on_err_weaker}
 
 pub assume-requires-clause-known : goal.assume-requires-clause-known
 assume-requires-clause-known g c = subst (λ (m : Net). c.args.event < length m.events) (sym c.requires.belong.of_steps) c.requires.known
@@ -37,3 +39,9 @@ pub returns-clause-solved : goal.returns-clause-solved
 returns-clause-solved g c =
     solved _ _ c.assume.new.parts c.solve.new.self c.args.k c.args.event c.args.there _ c.as_slice.result.now c.args.book.now.entries c.assume.new.book.entries c.solve.new.book.entries c.args.left.now c.solve.new.budget c.solve.result c.in_ok-assumed.ensures.assumed
     c.as_slice.ensures.value c.assume.ensures.axioms c.solve.ensures.searched c.solve.ensures.adopted c.solve.ensures.kept c.solve.ensures.put c.solve.ensures.answer
+
+pub returns-in_err-assumed-clause-quit : goal.returns-in_err-assumed-clause-quit
+returns-in_err-assumed-clause-quit g c = on_err _ _ (axioms_no_final c.args.book.now.entries c.assume.new.book.entries c.assume.ensures.axioms)
+
+pub returns-clause-quit : goal.returns-clause-quit
+returns-clause-quit g c = on_err_weaker c.solve.result (learnt_alone c.args.book.now.entries c.assume.new.book.entries c.solve.new.book.entries c.assume.ensures.axioms) c.solve.ensures.quit

@@ -1,9 +1,10 @@
-use Rattle.std.proofs.Common.{ap, subst, sym}
-use Rattle.fault_verdicts.proofs.Answered.{judged}
+use Rattle.des_base.proofs.Results.{on_err}
+use Rattle.std.proofs.Common.{ap, inl, subst, sym}
+use Rattle.fault_verdicts.proofs.Answered.{judged, left_open, unanswered_shown}
 use Rattle.fault_verdicts.proofs.Going.{goes_nowhere, ready_with_mark}
 use Rattle.fault_verdicts.proofs.judging.verdict.Goals as goal
-use Rattle.fault_verdicts.specs.Judged.{IsBestRun}
-use Rattle.fault_verdicts.specs.Judging.{IsVerdictShown}
+use Rattle.fault_verdicts.specs.Judged.{IsBestRun, IsOpenAtMost}
+use Rattle.fault_verdicts.specs.Judging.{IsUnanswered, IsVerdictShown}
 use Rattle.fault_verdicts.specs.Ready.{AreReadyForVerdicts}
 use Rattle.least_faults.proofs.Closing.{grown_closed, grown_not, grown_opened}
 use Rattle.least_faults.specs.Growing.{HasGrownWithin}
@@ -50,3 +51,20 @@ returns-clause-judged g c =
     judged c.args.net.now c.args.log.now c.ask.new.parts.step.steps c.args.k c.args.event c.args.budget c.ask.new.left c.args.first.now c.args.book.now.entries c.put_mark.new.self.entries c.ask.new.book.entries c.put_mark-2.new.self.entries c.in_ok-verdict.verdict
     (ap (λ (b : LedgerState). b.entries) c.in_ok-put_mark.ensures.added) (ap (λ (b : LedgerState). b.entries) c.in_ok-put_mark-2.ensures.added)
     (subst (λ steps. IsVerdictShown c.args.net.now c.args.log.now c.ask.new.parts.step.steps c.args.k c.args.event steps c.args.budget c.ask.new.left c.put_mark.new.self.entries c.ask.new.book.entries c.in_ok-verdict.verdict) c.steps.ensures.steps c.in_ok-verdict.ensures.asked)
+
+pub returns-in_err-put_mark-clause-unanswered : goal.returns-in_err-put_mark-clause-unanswered
+returns-in_err-put_mark-clause-unanswered g c = on_err _ _ (inl (ap (λ (b : LedgerState). b.entries) c.in_err-put_mark.ensures.err))
+
+pub returns-in_err-verdict-clause-unanswered : goal.returns-in_err-verdict-clause-unanswered
+returns-in_err-verdict-clause-unanswered g c =
+    on_err _ _ (left_open c.args.net.now c.args.log.now c.ask.new.parts.step.steps c.args.k c.args.event c.args.budget c.ask.new.left c.args.first.now c.args.book.now.entries c.put_mark.new.self.entries c.ask.new.book.entries
+    (ap (λ (b : LedgerState). b.entries) c.in_ok-put_mark.ensures.added) c.ask.ensures.searching
+    (subst (λ steps. IsUnanswered c.args.net.now c.args.log.now c.ask.new.parts.step.steps c.args.k c.args.event steps c.put_mark.new.self.entries c.ask.new.book.entries) c.steps.ensures.steps c.in_err-verdict.ensures.quit))
+
+pub returns-in_err-put_mark-2-clause-unanswered : goal.returns-in_err-put_mark-2-clause-unanswered
+returns-in_err-put_mark-2-clause-unanswered g c =
+    on_err _ _ (subst (λ (b : LedgerState). IsOpenAtMost c.args.net.now c.args.log.now c.ask.new.parts.step.steps c.args.k c.args.event c.args.budget c.args.first.now c.args.book.now.entries b.entries) (sym c.in_err-put_mark-2.ensures.err)
+    (left_open c.args.net.now c.args.log.now c.ask.new.parts.step.steps c.args.k c.args.event c.args.budget c.ask.new.left c.args.first.now c.args.book.now.entries c.put_mark.new.self.entries c.ask.new.book.entries
+    (ap (λ (b : LedgerState). b.entries) c.in_ok-put_mark.ensures.added) c.ask.ensures.searching
+    (subst (λ steps. IsUnanswered c.args.net.now c.args.log.now c.ask.new.parts.step.steps c.args.k c.args.event steps c.put_mark.new.self.entries c.ask.new.book.entries) c.steps.ensures.steps (unanswered_shown _ _ _ _ _ _ _ _ _ _ _ c.in_ok-verdict.ensures.asked)))
+    )

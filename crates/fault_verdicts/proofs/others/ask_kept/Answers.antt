@@ -1,5 +1,6 @@
-use Rattle.std.proofs.Common.{refl}
-use Rattle.fault_verdicts.proofs.Witnesses.{asked_of, judge_after, judge_stays, steps_kept}
+use Rattle.des_base.proofs.Results.{on_err}
+use Rattle.std.proofs.Common.{inl, refl}
+use Rattle.fault_verdicts.proofs.Witnesses.{asked_of, judge_after, judge_stays, steps_kept, unasked_of, unkept_of}
 use Rattle.fault_verdicts.proofs.others.ask_kept.Goals as goal
 use Rattle.least_faults.proofs.Closing.{grown_not}
 
@@ -46,3 +47,19 @@ returns-clause-judged g c =
     let about = c.args.about in
     asked_of about.net.now about.log.now about.best.now c.args.event about.budget c.args.kept.now (record { parts = c.verdict.new.parts; book = c.verdict.new.book; others = c.keep.new.others }) c.args.kept.now.book.entries c.verdict.new.book.entries c.in_ok-found.found
     c.verdict.ensures.goes_on c.in_ok-found.ensures.judged
+
+pub returns-then-count-gt-MOST_VARIABLES-clause-unjudged : goal.returns-then-count-gt-MOST_VARIABLES-clause-unjudged
+returns-then-count-gt-MOST_VARIABLES-clause-unjudged g c = inl (inl refl)
+
+pub returns-in_err-found-clause-unjudged : goal.returns-in_err-found-clause-unjudged
+returns-in_err-found-clause-unjudged g c =
+    let about = c.args.about in
+    on_err _ _ (unasked_of about.net.now about.log.now about.best.now c.args.event about.budget c.args.kept.now (record c.args.kept.now { parts = c.verdict.new.parts; book = c.verdict.new.book }) c.args.kept.now.book.entries c.verdict.new.book.entries
+    c.verdict.ensures.goes_on c.in_err-found.ensures.unanswered)
+
+pub returns-in_err-keep-clause-unjudged : goal.returns-in_err-keep-clause-unjudged
+returns-in_err-keep-clause-unjudged g c =
+    let about = c.args.about in
+    on_err _ _ (unkept_of about.net.now about.log.now about.best.now c.args.event about.budget c.args.kept.now (record { parts = c.verdict.new.parts; book = c.verdict.new.book; others = c.keep.new.others }) c.args.kept.now.book.entries c.verdict.new.book.entries c.in_ok-found.found
+    c.verdict.ensures.goes_on c.in_ok-found.ensures.judged
+    )

@@ -1,4 +1,5 @@
-use Rattle.std.proofs.Common.{inr, refl, subst, IfSome}
+use Rattle.des_base.proofs.Results.{on_err}
+use Rattle.std.proofs.Common.{inl, inr, refl, subst, IfSome}
 use Rattle.fault_verdicts.proofs.others.judge_kept.Goals as goal
 use Rattle.fault_verdicts.specs.Judged.{IsPossibleFound}
 use Rattle.least_faults.proofs.Closing.{grown_not}
@@ -14,3 +15,7 @@ returns-in-Some-clause-judged g c =
     let about = c.args.about in
     let found = IsPossibleFound about.net.now about.log.now c.args.kept.now.parts.step.steps about.best.now.faults c.args.event about.best.now.run in
     inr (record { run = _; verdict_is = refl; found = subst (λ shown. IfSome shown found) c.in-Some.is c.in_ok-witness.ensures; same = refl })
+
+pub returns-in_err-witness-clause-unjudged : goal.returns-in_err-witness-clause-unjudged
+returns-in_err-witness-clause-unjudged g c = on_err _ _ (inl (inl refl)
+    )
