@@ -1,5 +1,5 @@
 -- What rows tell: each by what its addition answers or what is found, and some by what one more tells.
-use Rattle.std.proofs.Common.{◌≡◌, ◌≢◌, ◌∙◌, ℕ, Bool, true, false, not, cond, List, [], ◌∷◌, ◌++◌, Option, None, Some, Result, Ok, Err, IfOk, OnOk, OnErr, is_some, refl, sym, ap, subst, append-nil, append_assoc, arith, length, length-append, map}
+use Rattle.std.proofs.Common.{◌≡◌, ◌≢◌, ◌∙◌, ℕ, Bool, true, false, not, cond, List, [], ◌∷◌, ◌++◌, Option, None, Some, inl, Result, Ok, Err, IfOk, OnOk, OnErr, is_some, refl, sym, ap, subst, append-nil, append_assoc, arith, length, length-append, map}
 use Rattle.alarm_session.proofs.Keeping.{adds_none}
 use Rattle.alarm_session.specs.Additions.{built_on}
 use Rattle.alarm_session.specs.Refusals.{refusal_of_alarm, refusal_of_before, is_new_pair, log_with, numbers_of}
@@ -133,6 +133,7 @@ module _ (net : Net) (n budget : ℕ) (old : Stage) (row : Row) (new : Stage) wh
       grown = record { since = []; whole = ap (λ (s : Stage). s.book) same ∙ sym (append-nil old.book); within = omega arith; fresh = fresh_none old.book };
     };
     addition = λ is. same;
+    unanswered = ([], inl (ap (λ (s : Stage). s.book) same));
     book = book;
   }
 

@@ -1,10 +1,10 @@
 -- How far a session has come: at its beginning, and after a question.
-use Rattle.std.proofs.Common.{◌≡◌, ◌∙◌, ℕ, List, [], ◌++◌, length, map, sym, ap, subst}
-use Rattle.alarm_session.specs.Session.{KeepsLog, IsToldBy, first_stage, stage_of}
+use Rattle.std.proofs.Common.{◌≡◌, ◌∙◌, inl, ℕ, List, [], ◌++◌, length, map, sym, ap, subst}
+use Rattle.alarm_session.specs.Session.{KeepsLog, IsToldBy, IsUnanswered, Stage, first_stage, stage_of}
 use Rattle.alarm_session.specs.declared.kept.Kept.{Kept}
 use Rattle.des_net.specs.Network.{Net}
 use Rattle.least_faults.proofs.Roomless.{answered_roomless, columns_roomless}
-use Rattle.least_faults.specs.Answers.{IsAnswered}
+use Rattle.least_faults.specs.Answers.{IsAnswered, IsOpenAtMost}
 use Rattle.least_faults.specs.Growing.{AddsAxioms, HasGrownWithin, KeepsQuestion}
 use Rattle.least_faults.specs.Parts.{IsBuilt, built_of, meanings_of_parts}
 use Rattle.answers.specs.declared.found.Found.{Found}
@@ -28,6 +28,10 @@ stage_begun net n kept old log empty adds none built = λ i. record { log = log 
     book : kept.book.entries ≡ map axiomatic (question_built net no_log n 0).axioms
     book = whole ∙ ap (map axiomatic) (sym (axioms_added [] adds.axioms) ∙ sym (ap axioms_of whole) ∙ ap (λ (q : BuiltQuestion). q.axioms) first)
 
+-- where the book stays, nothing was asked
+pub question_unasked : (net : Net) (n budget : ℕ) (old new : Stage) → new.book ≡ old.book → IsUnanswered net n budget old new
+question_unasked net n budget old new same = ([], inl same)
+
 module _ {R : Type 0} (budget : ℕ) (old new : Kept R) (keeps : KeepsQuestion old.parts new.parts old.book.entries new.book.entries) where
   pub question_goes_on : new.log ≡ old.log → HasGrownWithin budget old.book.entries new.book.entries → KeepsLog budget (stage_of old) (stage_of new)
   question_goes_on same grown = record {
@@ -48,3 +52,9 @@ module _ {R : Type 0} (budget : ℕ) (old new : Kept R) (keeps : KeepsQuestion o
             (subst (λ k. IsAnswered (meanings_of_parts new.parts) first net old.log k budget old.book.entries new.book.entries found) steps answered);
         valid = valid;
       }
+
+  -- without an answer
+  pub question_unanswered : (net : Net) (n : ℕ) → old.parts.step.steps ≡ n → IsOpenAtMost (meanings_of_parts new.parts) net old.log new.parts.step.steps budget old.book.entries new.book.entries → IsUnanswered net n budget (stage_of old) (stage_of new)
+  question_unanswered net n time unanswered =
+      let steps = ap (λ (s : CodedSteps). s.steps) keeps.step ∙ time in
+      (meanings_of_parts new.parts, subst (λ k. IsOpenAtMost (meanings_of_parts new.parts) net old.log k budget old.book.entries new.book.entries) steps unanswered)

@@ -2,7 +2,7 @@
 use Rattle.std.specs.Prelude.{◌≡◌, ◌≢◌, ℕ, List, [], ◌∷◌, drop, slice_index_or, Option, Some, None, Result, Ok, Err, is_some, true, false, if◌then◌else◌}
 use Rattle.alarm_session.specs.Additions.{alarm_addition, built_on, pair_addition}
 use Rattle.alarm_session.specs.Refusals.{refusal_of_alarm, refusal_of_before, log_with, numbers_of}
-use Rattle.alarm_session.specs.Session.{KeepsLog, IsSessionBook, IsToldBy, Stage, first_stage}
+use Rattle.alarm_session.specs.Session.{KeepsLog, IsSessionBook, IsToldBy, IsUnanswered, Stage, first_stage}
 use Rattle.alarm_session.specs.declared.refusal.SessionRefusal.{SessionRefusal}
 use Rattle.alarm_session.specs.declared.refusal.SessionRefusal.TheVariants.{Double, Unknown, Cycle, NoLabels, Limit, TooLarge, Memory}
 use Rattle.alarm_session.specs.declared.rows.Told.{Told}
@@ -108,11 +108,12 @@ pub record IsRowTold (net : Net) (n budget : ℕ) (old : Stage) (row : Row) (new
   pub built : new.built ≡ built_after net n old.log old.built row columns
   pub book : IsSessionBook net n new
 
--- Out of memory. The log is as it was, and question and book got no more than by a search that learns as many clauses as the budget says; by an addition they got nothing.
+-- Out of memory. The log is as it was, and question and book got no more than by a search that learns as many clauses as the budget says; by an addition they got nothing. A question is open at most, behind a mark 0, and no mark closes it.
 -- The book has the axioms of the question as it is built so far, is valid and lean, and asks what explains the log.
 pub record IsLeftUndone (net : Net) (n budget : ℕ) (old : Stage) (row : Row) (new : Stage) : Type 0 where
   pub goes_on : KeepsLog budget old new
   pub addition : row ≢ Ask → new ≡ old
+  pub unanswered : IsUnanswered net n budget old new
   pub book : IsSessionBook net n new
 
 -- what an addition tells that was made, or refused so; want of memory isn't told

@@ -7,7 +7,7 @@ use Rattle.des_base.specs.declared.TheConstants.{VAR_LIMIT}
 use Rattle.des_net.specs.Network.{Net}
 use Rattle.des_net.specs.QuestionSize.{component_sizes}
 use Rattle.least_faults.specs.Adding.{AddsFew}
-use Rattle.least_faults.specs.Answers.{IsAnswered}
+use Rattle.least_faults.specs.Answers.{IsAnswered, IsOpenAtMost}
 use Rattle.least_faults.specs.Bounds.{question_variables}
 use Rattle.least_faults.specs.Columns.{columns_built}
 use Rattle.least_faults.specs.Evidence.{IsPosed}
@@ -113,6 +113,10 @@ pub record IsToldBy (net : Net) (n budget : ℕ) (old new : Stage) (found : Foun
   pub meanings : List (ℕ × Meaning)
   pub answered : IsAnswered meanings old.built net old.log n budget old.book new.book found
   pub valid : IsValidBook new.book
+
+-- The question of the log so far has no answer: it is open at most, and each final entry negates what it assumes.
+abbrev pub IsUnanswered : Net → ℕ → ℕ → Stage → Stage → Type 0
+IsUnanswered net n budget old new = (meanings : List (ℕ × Meaning)) × IsOpenAtMost meanings net old.log n budget old.book new.book
 
 -- ---- what is always so of the book
 

@@ -1,7 +1,7 @@
 // A session begins, and questions are asked of what it keeps.
-ghost use Rattle.std.specs.Prelude.{◌≡◌, ◌≤◌, [], IfOk};
+ghost use Rattle.std.specs.Prelude.{◌≡◌, ◌≤◌, [], IfOk, OnErr};
 ghost use Rattle.alarm_session.specs.Refusals.{large_refusal};
-ghost use Rattle.alarm_session.specs.Session.{KeepsLog, IsAtFirstStage, IsRankedKept, IsToldBy, stage_of};
+ghost use Rattle.alarm_session.specs.Session.{KeepsLog, IsAtFirstStage, IsRankedKept, IsToldBy, IsUnanswered, stage_of};
 ghost use Rattle.des_base.specs.declared.TheConstants.{MOST_STEPS};
 ghost use Rattle.des_base.specs.Refusing.{SucceedsUnless};
 ghost use Rattle.indep.specs.StoredTest.{IsTest};
@@ -83,6 +83,7 @@ pub fn ask_kept<R: Fn(u32) -> u64>(
     ensures rank { kept.new.parts.solver.order.rank ≡ kept.old.parts.solver.order.rank }
     ensures goes_on { KeepsLog budget (stage_of kept.old) (stage_of kept.new) }
     ensures told { IfOk result (IsToldBy setting.entry.net.now setting.entry.steps budget (stage_of kept.old) (stage_of kept.new)) }
+    ensures unanswered { OnErr result (IsUnanswered setting.entry.net.now setting.entry.steps budget (stage_of kept.old) (stage_of kept.new)) }
 {
     advise(setting.alloc, setting.net, &kept.log, &mut kept.parts)?;
     let found = least(

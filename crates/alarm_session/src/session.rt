@@ -3,7 +3,7 @@ ghost use Rattle.std.specs.Prelude.{◌≡◌, ◌≤◌, Some, [], false, lengt
 ghost use Rattle.alarm_session.specs.Additions.{alarm_addition, pair_addition};
 ghost use Rattle.alarm_session.specs.Refusals.{refusal_of_alarm, refusal_of_before, is_new_pair, large_refusal, log_with, numbers_of};
 ghost use Rattle.alarm_session.specs.Rows.{IsLeftUndone, IsRowTold};
-ghost use Rattle.alarm_session.specs.Session.{Becomes, BeginsAs, KeepsLog, IsSessionBook, IsToldBy, KeepsSetting};
+ghost use Rattle.alarm_session.specs.Session.{Becomes, BeginsAs, KeepsLog, IsSessionBook, IsToldBy, IsUnanswered, KeepsSetting};
 ghost use Rattle.des_base.specs.declared.TheConstants.{MOST_STEPS};
 ghost use Rattle.des_base.specs.Refusing.{SucceedsUnless};
 ghost use Rattle.indep.specs.StoredTest.{IsTest};
@@ -123,13 +123,15 @@ impl<'a, R: Fn(u32) -> u64> Session<'a, R> {
 
     /// The least number of faults that explains the log so far, by a search that may learn as many clauses as the budget says.
     ///
-    /// After want of memory the log is as it was, the book may have grown, and the session goes on.
+    /// After want of memory the log is as it was, and the session goes on. The book may have grown: by a mark 0 that opens the question, and
+    /// no mark that closes it.
     pub fn ask(&mut self, budget: u64) -> Result<Found, Memory>
         requires ranked { IsRanked R.pre R.post self.old.order }
         ensures ranked { IsRanked R.pre R.post self.new.order }
         ensures kept { KeepsSetting self.old self.new }
         ensures goes_on { KeepsLog budget self.old.stage self.new.stage }
         ensures told { IfOk result (IsToldBy self.old.net self.old.steps budget self.old.stage self.new.stage) }
+        ensures unanswered { OnErr result (IsUnanswered self.old.net self.old.steps budget self.old.stage self.new.stage) }
     {
         ask_kept(self.setting, &mut self.kept, budget)
     }
