@@ -1,14 +1,15 @@
 -- From the entries of a search to those of a whole answer: what came before, and the marks.
-use Rattle.std.proofs.Common.{◌≡◌, ◌∙◌, ◌⊎◌, inl, inr, ℕ, ◌+◌, false, List, [], ◌∷◌, ◌++◌, map, Option, None, Some, IfSome, IfNone, refl, sym, ap, subst, arith, Contains, count_by, append_assoc}
+use Rattle.std.proofs.Common.{◌≡◌, ◌∙◌, ◌⊎◌, inl, inr, ℕ, ◌+◌, ◌≤◌, Bool, append-nil, false, List, [], ◌∷◌, ◌++◌, map, Option, None, Some, IfSome, IfNone, refl, sym, ap, subst, arith, Contains, count_by, append_assoc}
 use Rattle.std.specs.List.{list_any}
+use Rattle.std.proofs.lemmas.List.{append_cancel_left}
 use Rattle.std.proofs.lemmas.List.Elements.{Contains-append_cases}
 use Rattle.event_costs.specs.declared.TheConstants.{MOST_COST}
 use Rattle.des_net.specs.Network.{Net}
 use Rattle.log_order.specs.Log.{Log}
 use Rattle.least_faults.proofs.Freshness.{fresh_axioms, fresh_both, fresh_mark}
-use Rattle.least_faults.proofs.Putting.{learnt_no_final, no_final_in, none_final, none_joined, none_marked, only_final}
+use Rattle.least_faults.proofs.Putting.{learnt_no_final, no_final_in, none_counted, none_final, none_joined, none_marked, one_counted, only_final}
 use Rattle.least_faults.specs.Answers.{HaveLearntFresh}
-use Rattle.least_faults.specs.Asking.{IsSearching}
+use Rattle.least_faults.specs.Asking.{IsSearching, PutsNoFinal}
 use Rattle.least_faults.specs.Evidence.{is_final, HasFinal, HasLastFinal}
 use Rattle.least_faults.specs.Growing.{AddsAxioms, HasGrownWithin}
 use Rattle.least_faults.specs.declared.parts.Parts.{Parts}
@@ -20,12 +21,14 @@ use Rattle.prop_core.specs.Clauses.{Clause, NegatesOnly}
 use Rattle.prop_core.specs.Trail.{Clashes}
 use Rattle.prop_core.specs.declared.lit.Lit.{Lit}
 use Rattle.run_decode.proofs.Faults.{count_append}
-use Rattle.sat_solve.specs.Searching.{IsClosedByFinal}
+use Rattle.sat_solve.specs.Searching.{HasLearnt, IsClosedByFinal, IsPutFor}
+use Rattle.sat_solve.specs.declared.answer.Answer.{Answer}
+use Rattle.sat_solve.specs.declared.answer.Answer.TheVariants.{Sat}
 use Rattle.step_encode.specs.Coded.{CodedSteps}
 use Rattle.weight_counter.specs.declared.scale.Scale.{Scale}
-use Rattle.cost_least.specs.Answers.{CostAsked, FinalsNegateCosts, NegatesCost, PoseCostQuestion, IsCostEvidence, IsCheapFound, HasConflictOf, HasConflictAt, HasCostConflict, IsCostAnswered, IsKnownAbove}
+use Rattle.cost_least.specs.Answers.{CostAsked, FinalsNegateCosts, NegatesCost, PoseCostQuestion, IsCostEvidence, IsCheapFound, HasConflictOf, HasConflictAt, HasCostConflict, IsCostAnswered, IsCostLeftOpen, IsKnownAbove}
 use Rattle.cost_least.specs.Asking.{EndsByFinal, HasAskedCost}
-use Rattle.cost_least.specs.Searching.{HasFoundCost, asked_of}
+use Rattle.cost_least.specs.Searching.{HasFoundCost, HasRefusedCosts, IsSolvedUnder, asked_of}
 use Rattle.cost_least.specs.Weighed.{AreWeighedParts, KeepsCode, assumed_at}
 use Rattle.answers.specs.declared.cheap.Cheap.{Cheap}
 use Rattle.answers.specs.declared.cheap.Cheap.TheVariants.{Found, Absent, Dear, Undecided}
@@ -53,14 +56,19 @@ coded_back cost old new axioms scale keeps coded =
 
 -- ---- what a search puts
 
-pub found_by : (q : CostAsked) (old new : List BookEntry) (budget left : ℕ) (searching : IsSearching old new budget left) (cheap : Cheap) → HasConflictOf q new cheap → FinalsNegateCosts q (axioms_of new) searching.since → IsCheapFound q (axioms_of new) searching.since budget cheap → HasFoundCost q budget old new cheap
-found_by q old new budget left searching cheap conflict finals is = record {
+-- learnt entries and then a final one
+pub ends_counted : {assumed : List Lit} (since : List BookEntry) → EndsByFinal assumed since → count_by is_final since ≡ 1
+ends_counted since ends = ap (count_by is_final) ends.whole ∙ one_counted [] ends.before ends.clause ends.hints refl ends.learnt
+
+pub found_by : (q : CostAsked) (old new : List BookEntry) (budget left : ℕ) (searching : IsSearching old new budget left) (cheap : Cheap) → HasConflictOf q new cheap → FinalsNegateCosts q (axioms_of new) searching.since → count_by is_final searching.since ≤ 1 + MOST_COST → IsCheapFound q (axioms_of new) searching.since budget cheap → HasFoundCost q budget old new cheap
+found_by q old new budget left searching cheap conflict finals few is = record {
   since = searching.since;
   whole = searching.whole;
   unmarked = searching.unmarked;
   within = (let paid = searching.paid in omega (arith, paid));
   fresh = searching.fresh;
   finals = finals;
+  finals_few = few;
   found = is;
   conflict = conflict;
 }
@@ -79,7 +87,7 @@ module _ (q : CostAsked) (code : CodedLog) (scale : Scale) (old new : List BookE
       closed = record { before = ends.before; clause = ends.clause; hints = ends.hints; whole = ends.whole; all_learnt = ends.learnt }
 
   pub found_absent : PoseCostQuestion q None (axioms_of new) (assumed_at code scale None) → HasAskedCost q code scale None old new before after Refuted → HasFoundCost q before old new Absent
-  found_absent told asked = found_by q old new before after asked.searching Absent tt (final_without told asked) (record {
+  found_absent told asked = found_by q old new before after asked.searching Absent tt (final_without told asked) (let one = ends_counted asked.searching.since asked.means.ends in omega (arith, one)) (record {
     absent = asked.means.out;
     evidence = record {
       assumed = assumed_at code scale None;
@@ -90,7 +98,7 @@ module _ (q : CostAsked) (code : CodedLog) (scale : Scale) (old new : List BookE
 
   pub found_nothing : PoseCostQuestion q None (axioms_of new) (assumed_at code scale None) → HasAskedCost q code scale None old new before after Spent → HasFoundCost q before old new (Undecided 0 None)
   found_nothing told asked = found_by q old new before after asked.searching (Undecided 0 None) (record { assumed = assumed_at code scale None; told = told; clashes = asked.means.clashes })
-      (λ clause hints in'. absurd (no_final_in asked.searching.since clause hints (learnt_no_final asked.searching.since asked.means.learnt) in')) (record {
+      (λ clause hints in'. absurd (no_final_in asked.searching.since clause hints (learnt_no_final asked.searching.since asked.means.learnt) in')) (let none = none_counted asked.searching.since (learnt_no_final asked.searching.since asked.means.learnt) in omega (arith, none)) (record {
         spent = (let paid = asked.searching.paid in let nothing = asked.means.nothing in omega (arith, paid, nothing));
         needs = λ word order explains. omega arith;
         evidence = λ b is. absurd (omega (arith, is));
@@ -169,6 +177,7 @@ found_later q budget left old mid new front answer whole unmarked none paid fres
   within = (let count = count_append is_learnt front found.since in let less = found.within in omega (arith, count, less, paid));
   fresh = fresh_both old mid front found.since whole fresh found.fresh;
   finals = finals_later q (axioms_of new) front found.since none found.finals;
+  finals_few = (let count = count_append is_final front found.since in let zero = none_counted front none in omega (arith, count, zero, found.finals_few));
   found = is_found_later q (axioms_of new) front found.since none budget left answer paid found.found;
   conflict = found.conflict;
 }
@@ -202,6 +211,7 @@ answered_by q budget old opened searched new answer begins ends found =
       within = found.within;
       fresh = subst (λ (earlier : List BookEntry). HaveLearntFresh earlier found.since) begins found.fresh;
       finals = subst (λ (cs : List Clause). FinalsNegateCosts q cs found.since) (sym axioms) found.finals;
+      finals_few = found.finals_few;
       found = subst (λ (cs : List Clause). IsCheapFound q cs found.since budget answer) (sym axioms) found.found;
       conflict = conflict_closed q searched new answer axioms clauses found.conflict;
     }
@@ -231,3 +241,57 @@ grown_searched budget left old opened mid searched begins adds searching =
       within = (let paid = searching.paid in let less = grown.within in let count = count_append is_learnt grown.since searching.since in omega (arith, paid, less, count));
       fresh = fresh_both old mid grown.since searching.since grown.whole grown.fresh searching.fresh;
     }
+
+-- ---- without an answer
+
+-- what a search learns has no final entry
+pub learnt_alone : (old new : List BookEntry) → HasLearnt old new → PutsNoFinal old new
+learnt_alone old new put = record { since = put.since; whole = put.whole; none = learnt_no_final put.since put.all_learnt }
+
+pub nothing_put : (old : List BookEntry) → PutsNoFinal old old
+nothing_put old = record { since = []; whole = sym (append-nil old); none = refl }
+
+-- nor has what it puts for a model
+pub model_alone : (assumed : List Lit) (values : List Bool) (old new : List BookEntry) (before after : ℕ) (answer : Answer) → IsSolvedUnder assumed values old new before after answer → answer ≡ Sat → PutsNoFinal old new
+model_alone assumed values old new before after answer is same =
+    record { since = is.searching.since; whole = is.searching.whole; none = learnt_no_final is.searching.since (subst (λ (a : Answer). IsPutFor a is.searching.since) same is.put) }
+
+pub refused_none : (q : CostAsked) (old new : List BookEntry) → PutsNoFinal old new → HasRefusedCosts q old new
+refused_none q old new quit = record {
+  since = quit.since;
+  whole = quit.whole;
+  finals = λ clause hints in'. absurd (no_final_in quit.since clause hints quit.none in');
+  few = (let none = none_counted quit.since quit.none in omega (arith, none));
+}
+
+pub refused_later : (q : CostAsked) (old mid new front : List BookEntry) → mid ≡ old ++ front → list_any is_final front ≡ false → HasRefusedCosts q mid new → HasRefusedCosts q old new
+refused_later q old mid new front whole none refused = record {
+  since = front ++ refused.since;
+  whole = refused.whole ∙ ap (λ b. b ++ refused.since) whole ∙ append_assoc old front refused.since;
+  finals = finals_later q (axioms_of new) front refused.since none refused.finals;
+  few = (let count = count_append is_final front refused.since in let zero = none_counted front none in omega (arith, count, zero, refused.few));
+}
+
+pub refused_by : (q : CostAsked) (budget : ℕ) (old new : List BookEntry) (cheap : Cheap) → HasFoundCost q budget old new cheap → HasRefusedCosts q old new
+refused_by q budget old new cheap found = record { since = found.since; whole = found.whole; finals = found.finals; few = found.finals_few }
+
+pub refused_still : {R : Type 0} (net : Net) (cost : ℕ → ℕ) (log : Log) (old new : Parts R) (book then : List BookEntry) → KeepsCode old new → HasRefusedCosts (asked_of net cost log old) book then → HasRefusedCosts (asked_of net cost log new) book then
+refused_still net cost log old new book then keeps = subst (λ (s : CodedSteps). HasRefusedCosts (record { net = net; cost = cost; log = log; steps = s.steps }) book then) (sym keeps.step)
+
+-- behind the opening mark and the axioms of the scale
+pub left_open : (q : CostAsked) (budget left : ℕ) (old opened mid searched : List BookEntry) → opened ≡ old ++ mark 0 ∷ [] → AddsAxioms opened mid → IsSearching mid searched budget left → HasRefusedCosts q mid searched → IsCostLeftOpen q budget old searched
+left_open q budget left old opened mid searched begins adds searching refused = record {
+  since = map axiomatic adds.axioms ++ searching.since;
+  whole = whole ∙ ap (λ b. b ++ (map axiomatic adds.axioms ++ searching.since)) begins ∙ append_assoc old (mark 0 ∷ []) (map axiomatic adds.axioms ++ searching.since);
+  unmarked = λ number. count_append (is_mark number) (map axiomatic adds.axioms) searching.since ∙ (let one = none_marked number adds.axioms in let two = searching.unmarked number in omega (arith, one, two));
+  within = (let count = count_append is_learnt (map axiomatic adds.axioms) searching.since in let none = none_learnt adds.axioms in let paid = searching.paid in omega (arith, count, none, paid));
+  fresh = subst (λ (earlier : List BookEntry). HaveLearntFresh earlier (map axiomatic adds.axioms ++ searching.since)) begins (fresh_both opened mid (map axiomatic adds.axioms) searching.since adds.more (fresh_axioms opened adds.axioms) searching.fresh);
+  finals = finals_later q (axioms_of searched) (map axiomatic adds.axioms) searching.since (none_final adds.axioms) (subst (FinalsNegateCosts q (axioms_of searched)) same refused.finals);
+  finals_few = (let count = count_append is_final (map axiomatic adds.axioms) searching.since in let zero = none_counted (map axiomatic adds.axioms) (none_final adds.axioms) in let few = subst (λ (entries : List BookEntry). count_by is_final entries ≤ 1 + MOST_COST) same refused.few in omega (arith, count, zero, few));
+}
+  where
+    whole : searched ≡ opened ++ (map axiomatic adds.axioms ++ searching.since)
+    whole = searching.whole ∙ ap (λ b. b ++ searching.since) adds.more ∙ append_assoc opened (map axiomatic adds.axioms) searching.since
+
+    same : refused.since ≡ searching.since
+    same = append_cancel_left mid refused.since searching.since (sym refused.whole ∙ searching.whole)

@@ -7,14 +7,16 @@ use Rattle.std.proofs.lemmas.List.Elements.{Contains-append_cases, Contains-appe
 use Rattle.card_counter.specs.CounterState.{negative}
 use Rattle.des_base.proofs.Elements.{cons_cases, none_in_nil}
 use Rattle.event_costs.specs.declared.TheConstants.{MOST_COST}
-use Rattle.least_faults.proofs.Climbing.{searching_further, searching_none}
+use Rattle.least_faults.proofs.Climbing.{no_more, searching_further, searching_none}
 use Rattle.least_faults.proofs.Entailing.{final_entailed}
 use Rattle.least_faults.proofs.Putting.{learnt_no_final, no_final_in, none_joined, only_final}
-use Rattle.least_faults.specs.Evidence.{HasFinal, HasLastFinal}
+use Rattle.least_faults.specs.Asking.{PutsNoFinal}
+use Rattle.least_faults.specs.Evidence.{HasFinal, HasLastFinal, is_final}
+use Rattle.run_decode.proofs.Faults.{count_append}
 use Rattle.log_clauses.proofs.Lists.{all_at}
 use Rattle.log_encode.specs.CodedLog.{CodedLog}
 use Rattle.proof_ledger.specs.Book.{BookEntry, final, axioms_of, clauses_of, IsValidBook}
-use Rattle.prop_core.specs.Clauses.{HasValues, negation, NegatesOnly}
+use Rattle.prop_core.specs.Clauses.{Clause, HasValues, negation, NegatesOnly}
 use Rattle.prop_core.specs.Trail.{Clashes}
 use Rattle.prop_core.specs.declared.lit.Lit.{Lit}
 use Rattle.replay.specs.Matching.{order_of}
@@ -24,11 +26,11 @@ use Rattle.sat_solve.specs.Searching.{AreLearnt, IsClosedByFinal}
 use Rattle.weight_counter.specs.Scales.{place_variable}
 use Rattle.weight_counter.specs.declared.scale.Scale.{Scale}
 use Rattle.cost_least.proofs.Asked.{ends_cheapest, ends_dear, needed}
-use Rattle.cost_least.proofs.Finding.{found_by}
-use Rattle.cost_least.specs.Answers.{CostAsked, FinalsNegateCosts, PoseCostQuestion, IsPriced, Needs, IsBetween, IsCostEvidence}
+use Rattle.cost_least.proofs.Finding.{ends_counted, found_by}
+use Rattle.cost_least.specs.Answers.{CostAsked, FinalsNegateCosts, NegatesCost, PoseCostQuestion, IsPriced, Needs, IsBetween, IsCostEvidence}
 use Rattle.cost_least.specs.Asking.{HasAskedCost}
 use Rattle.cost_least.specs.Pricing.{ExplainsAt}
-use Rattle.cost_least.specs.Searching.{HasHalved, HasFoundCost, FinalsAreBelowTotal}
+use Rattle.cost_least.specs.Searching.{HasHalved, HasFoundCost, HasRefusedCosts, FinalsAreBelowTotal}
 use Rattle.cost_least.specs.Weighed.{log_guards, assumed_at}
 use Rattle.answers.specs.declared.cheap.Cheap.TheVariants.{Found, Dear, Undecided}
 use Rattle.answers.specs.declared.cheap.Priced.{Priced}
@@ -46,6 +48,7 @@ module _ (q : CostAsked) (code : CodedLog) (scale : Scale) where
   halved_none book budget known given counted = record {
     searching = searching_none book budget;
     finals = λ clause hints in'. absurd (none_in_nil (final clause hints) in');
+    few = omega arith;
     last = λ b is. absurd (omega (arith, is));
     needs = λ word order explains. omega arith;
     reached = omega arith;
@@ -78,6 +81,7 @@ module _ (q : CostAsked) (code : CodedLog) (scale : Scale) where
     halved_better bound better asked = record {
       searching = searching_further old mid new budget before after come.searching asked.searching;
       finals = learnt_finals asked.searching.since asked.means.learnt;
+      few = no_more lo come.searching.since asked.searching.since come.few (learnt_no_final asked.searching.since asked.means.learnt);
       last = learnt_last asked.searching.since asked.means.learnt;
       needs = come.needs;
       reached = come.reached;
@@ -89,6 +93,7 @@ module _ (q : CostAsked) (code : CodedLog) (scale : Scale) where
     halved_refuted b between asked = record {
       searching = searching_further old mid new budget before after come.searching asked.searching;
       finals = finals;
+      few = (let all = count_append is_final come.searching.since asked.searching.since in let one = ends_counted asked.searching.since asked.means.ends in let low = between.low in omega (arith, all, one, low, come.few));
       last = λ b' is. subst (λ k. HasLastFinal (come.searching.since ++ asked.searching.since) (assumed_at code scale (Some k))) (let same : b ≡ b' = omega (arith, is) in same) last;
       needs = subst (Needs q) (let next : suc b ≡ b + 1 = omega arith in next) asked.means.out;
       reached = (let few = between.few in omega (arith, few));
@@ -122,6 +127,7 @@ module _ (q : CostAsked) (code : CodedLog) (scale : Scale) where
     halved_spent b asked = record {
       searching = searching_further old mid new budget before after come.searching asked.searching;
       finals = learnt_finals asked.searching.since asked.means.learnt;
+      few = no_more lo come.searching.since asked.searching.since come.few (learnt_no_final asked.searching.since asked.means.learnt);
       last = learnt_last asked.searching.since asked.means.learnt;
       needs = come.needs;
       reached = come.reached;
@@ -150,10 +156,10 @@ module _ (q : CostAsked) (code : CodedLog) (scale : Scale) where
         record { bound = Some found.0; few = few; assumed = assumed_at code scale (Some found.0); told = told found.0 few (come.counted (omega (arith, least, low))); negates = found.2 }
 
     pub halved_cheapest : min best.cost (1 + MOST_COST) ≤ lo → best.cost ≤ MOST_COST → HasFoundCost q budget old new (Found best)
-    halved_cheapest end few = found_by q old new budget left come.searching (Found best) tt finals_negate (ends_cheapest q (axioms_of new) come.searching.since lo best come.needs come.given end few evidence)
+    halved_cheapest end few = found_by q old new budget left come.searching (Found best) tt finals_negate (omega (arith, come.few, come.reached)) (ends_cheapest q (axioms_of new) come.searching.since lo best come.needs come.given end few evidence)
 
     pub halved_dear : min best.cost (1 + MOST_COST) ≤ lo → MOST_COST < best.cost → HasFoundCost q budget old new (Dear best.run)
-    halved_dear end above = found_by q old new budget left come.searching (Dear best.run) tt finals_negate (ends_dear q (axioms_of new) come.searching.since lo best come.needs come.given end come.reached above evidence)
+    halved_dear end above = found_by q old new budget left come.searching (Dear best.run) tt finals_negate (omega (arith, come.few, come.reached)) (ends_dear q (axioms_of new) come.searching.since lo best come.needs come.given end come.reached above evidence)
 
     -- a final entry tells by its literals which total it refutes
     finals_tell : IsValidBook new → HasValues scale.first (log_guards code) → PoseCostQuestion q None (axioms_of new) (assumed_at code scale None) → (b : ℕ) → HasFinal come.searching.since (assumed_at code scale (Some b)) → b < lo
@@ -196,7 +202,7 @@ module _ (q : CostAsked) (code : CodedLog) (scale : Scale) where
         Clashes (clauses_of new) (assumed_at code scale (Some b)) → HasFoundCost q budget old new (Undecided lo (Some best))
     halved_undecided valid guards unbounded less nothing b between clashes =
         let some = come.counted (omega (arith, less)) in
-        found_by q old new budget left come.searching (Undecided lo (Some best)) (b, between, record { assumed = assumed_at code scale (Some b); told = told b between.few some; clashes = clashes }) finals_negate (record {
+        found_by q old new budget left come.searching (Undecided lo (Some best)) (b, between, record { assumed = assumed_at code scale (Some b); told = told b between.few some; clashes = clashes }) finals_negate (omega (arith, come.few, come.reached)) (record {
           spent = (let paid = come.searching.paid in omega (arith, paid, nothing));
           needs = come.needs;
           evidence = evidence;
@@ -213,3 +219,25 @@ module _ (q : CostAsked) (code : CodedLog) (scale : Scale) where
           };
           unknown = tt;
         })
+
+-- ---- without an answer
+
+-- the totals that were refuted so far, where nothing more is
+pub halved_quits : (q : CostAsked) (code : CodedLog) (scale : Scale) (first old new : List BookEntry) (budget left lo : ℕ) (best : Priced) → HasHalved q code scale first old budget left lo best → PutsNoFinal old new →
+    ((b : ℕ) → b ≤ MOST_COST → 0 < scale.inputs → PoseCostQuestion q (Some b) (axioms_of new) (assumed_at code scale (Some b))) → HasRefusedCosts q first new
+halved_quits q code scale first old new budget left lo best come quit told = record {
+  since = come.searching.since ++ quit.since;
+  whole = quit.whole ∙ ap (λ b. b ++ quit.since) come.searching.whole ∙ append_assoc first come.searching.since quit.since;
+  finals = λ clause hints in'. by clause hints (Contains-append_cases come.searching.since quit.since (final clause hints) in');
+  few = (let all = no_more lo come.searching.since quit.since come.few quit.none in omega (arith, all, come.reached));
+}
+  where
+    by : (clause : Clause) (hints : List ℕ) → Contains come.searching.since (final clause hints) ⊎ Contains quit.since (final clause hints) → NegatesCost q (axioms_of new) clause
+    by clause hints (inl first') =
+        let found = come.finals clause hints first' in
+        let low = found.1 in
+        let least = needed q lo best come.needs come.given in
+        let reached = come.reached in
+        let few : found.0 ≤ MOST_COST = omega (arith, low, reached) in
+        record { bound = Some found.0; few = few; assumed = assumed_at code scale (Some found.0); told = told found.0 few (come.counted (omega (arith, least, low))); negates = found.2 }
+    by clause hints (inr later) = absurd (no_final_in quit.since clause hints quit.none later)

@@ -5,6 +5,7 @@ use Rattle.des_net.specs.Network.{Net, IsNetwork}
 use Rattle.event_costs.specs.StoredCosts.{GivesCosts}
 use Rattle.event_costs.specs.declared.TheConstants.{MOST_COST}
 use Rattle.least_faults.proofs.Putting.{learnt_no_final}
+use Rattle.least_faults.specs.Asking.{PutsNoFinal}
 use Rattle.least_faults.specs.Parts.{BelongTo}
 use Rattle.least_faults.specs.declared.parts.Parts.{Parts}
 use Rattle.log_clauses.specs.LogClauses.{guard_literals}
@@ -14,12 +15,12 @@ use Rattle.proof_ledger.specs.Book.{BookEntry, axioms_of, IsValidBook}
 use Rattle.prop_core.specs.VariableNames.{ReadsAs}
 use Rattle.weight_counter.specs.declared.scale.Scale.{Scale}
 use Rattle.cost_least.proofs.Answering.{told, guards_before}
-use Rattle.cost_least.proofs.Finding.{asked_back, coded_back, found_absent, found_later, found_nothing, found_still}
-use Rattle.cost_least.proofs.Halving.{halved_none, halved_better, halved_refuted, halved_spent, halved_cheapest, halved_dear, halved_undecided}
+use Rattle.cost_least.proofs.Finding.{asked_back, coded_back, found_absent, found_later, found_nothing, found_still, refused_later, refused_still}
+use Rattle.cost_least.proofs.Halving.{halved_none, halved_quits, halved_better, halved_refuted, halved_spent, halved_cheapest, halved_dear, halved_undecided}
 use Rattle.cost_least.proofs.Weighed.{goes_both, goes_none}
 use Rattle.cost_least.specs.Answers.{CostAsked, PoseCostQuestion, IsPriced, IsBetween}
 use Rattle.cost_least.specs.Asking.{HasAskedCost}
-use Rattle.cost_least.specs.Searching.{AreAsked, GoesOnWeighed, HasFoundCost, HasHalved, MayBound, asked_of}
+use Rattle.cost_least.specs.Searching.{AreAsked, GoesOnWeighed, HasFoundCost, HasHalved, HasRefusedCosts, MayBound, asked_of}
 use Rattle.cost_least.specs.Weighed.{AreWeighed, AreWeighedParts, log_guards, assumed_at}
 use Rattle.answers.specs.declared.cheap.Cheap.{Cheap}
 use Rattle.answers.specs.declared.cheap.Cheap.TheVariants.{Found, Absent, Dear, Undecided}
@@ -107,6 +108,14 @@ module _ {R C : Type 0} (may : R → ℕ → Type 0) (gives : R → ℕ → ℕ 
           as_now now new left come.goes cost weighed (Dear best.run)
           (halved_dear (asked_of net cost log begun) begun.code.coded scale first new budget left lo best (come.come cost answered weighed) (tells_few now new left come.goes cost weighed) end above)
 
+    -- where memory is wanting
+    pub quits_at : (mid now : Parts R) (old new : List BookEntry) (before after lo : ℕ) (best : Priced) → HasComeTo may gives answers stored net log begun mid scale first old budget before lo best → GoesOnWeighed may gives mid now scale old new before after → PutsNoFinal old new →
+        (cost : ℕ → ℕ) → GivesCosts answers stored net cost → AreWeighed may gives cost begun scale first → HasRefusedCosts (asked_of net cost log now) first new
+    quits_at mid now old new before after lo best come two quit cost answered weighed =
+        let goes = goes_both may gives begun mid now scale first old new budget before after come.goes two in
+        refused_still net cost log begun now first new goes.kept
+        (halved_quits (asked_of net cost log begun) begun.code.coded scale first old new budget before lo best (come.come cost answered weighed) quit (tells_few now new after goes cost weighed))
+
     -- where the budget is spent
     pub ends_undecided : (mid now : Parts R) (old new : List BookEntry) (before after lo : ℕ) (best : Priced) (b : ℕ) (given : Asked) (come : HasComeTo may gives answers stored net log begun mid scale first old budget before lo best) → GoesOnWeighed may gives mid now scale old new before after →
         ((cost : ℕ → ℕ) → GivesCosts answers stored net cost → AreWeighed may gives cost mid scale old → HasAskedCost (asked_of net cost log now) now.code.coded scale (Some b) old new before after given) → given ≡ Spent → IsValidBook new → lo < min best.cost (1 + MOST_COST) → IsBetween lo best.cost b →
@@ -130,6 +139,11 @@ module _ {R C : Type 0} (may : R → ℕ → Type 0) (gives : R → ℕ → ℕ 
 
       pub ends_unknown : given ≡ Spent → HasFoundCost (asked_of net cost log now) budget first new (Undecided 0 None)
       ends_unknown same = as_now now new left goes cost weighed (Undecided 0 None) (found_nothing (asked_of net cost log begun) begun.code.coded scale first new budget left (tells now new left goes cost weighed None tt) (first_asked Spent same))
+
+      pub quits_later : (q : CostAsked) (last : List BookEntry) (known : Priced) → given ≡ Explained known → HasRefusedCosts q new last → HasRefusedCosts q first last
+      quits_later q last known same refused =
+          let here = first_asked (Explained known) same in
+          refused_later q first new last here.searching.since here.searching.whole (learnt_no_final here.searching.since here.means.learnt) refused
 
       -- with what is found behind it
       pub ends_later : (q : CostAsked) (last : List BookEntry) (cheap : Cheap) (known : Priced) → given ≡ Explained known → HasFoundCost q left new last cheap → HasFoundCost q budget first last cheap

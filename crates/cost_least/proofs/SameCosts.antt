@@ -23,7 +23,7 @@ use Rattle.run_decode.proofs.Tells.{same_property_told}
 use Rattle.step_encode.specs.Coded.{CodedSteps, code_grid}
 use Rattle.weight_counter.specs.declared.scale.Scale.{Scale}
 use Rattle.weight_counter.specs.declared.weighted.Weighted.{Weighted}
-use Rattle.cost_least.specs.Answers.{PoseCostQuestion, CostAsked, HasConflictOf, HasCostConflict, IsAboveFinals, IsCheapFound, IsCostAnswered, IsCostEvidence, IsKnownAbove, IsPriced, IsRunAt, Needs}
+use Rattle.cost_least.specs.Answers.{PoseCostQuestion, CostAsked, HasConflictOf, HasCostConflict, IsAboveFinals, IsCheapFound, IsCostAnswered, IsCostEvidence, IsCostLeftOpen, IsKnownAbove, IsPriced, IsRunAt, Needs}
 use Rattle.cost_least.specs.Drawn.{IsCostClause, cost_literals}
 use Rattle.cost_least.specs.Costs.{IsCheapest, IsDear, IsExplainedAt, event_cost, total, word_cost}
 use Rattle.cost_least.specs.Pricing.{ExplainsAt, named_weights}
@@ -167,8 +167,20 @@ module _ (net : Net) (a b : ℕ → ℕ) (agree : (e : ℕ) → is_fault net e �
       within = h.within;
       fresh = h.fresh;
       finals = λ clause hints in'. let is = h.finals clause hints in' in record { bound = is.bound; few = is.few; assumed = is.assumed; told = same_told is.bound _ is.assumed is.told; negates = is.negates };
+      finals_few = h.finals_few;
       found = same_found _ h.since budget answer h.found;
       conflict = same_conflict new answer h.conflict;
+    }
+
+    pub same_open : (budget : ℕ) (old new : List BookEntry) → IsCostLeftOpen first budget old new → IsCostLeftOpen second budget old new
+    same_open budget old new h = record {
+      since = h.since;
+      whole = h.whole;
+      unmarked = h.unmarked;
+      within = h.within;
+      fresh = h.fresh;
+      finals = λ clause hints in'. let is = h.finals clause hints in' in record { bound = is.bound; few = is.few; assumed = is.assumed; told = same_told is.bound _ is.assumed is.told; negates = is.negates };
+      finals_few = h.finals_few;
     }
 
   -- ---- the inputs of the scale

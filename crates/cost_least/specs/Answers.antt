@@ -1,5 +1,5 @@
 -- What is found of the least total of an explanation, and what each answer means.
-use Rattle.std.specs.Prelude.{◌≡◌, ℕ, suc, ◌<◌, ◌≤◌, ⊤, false, List, [], ◌∷◌, ◌++◌, Option, Some, None, IfSome, IfNone, Contains, count_by}
+use Rattle.std.specs.Prelude.{◌≡◌, ℕ, suc, ◌+◌, ◌<◌, ◌≤◌, ⊤, false, List, [], ◌∷◌, ◌++◌, Option, Some, None, IfSome, IfNone, Contains, count_by}
 use Rattle.std.specs.List.{list_any}
 use Rattle.des_net.specs.Network.{Net}
 use Rattle.event_costs.specs.declared.TheConstants.{MOST_COST}
@@ -144,7 +144,7 @@ HasConflictOf q book Absent = ⊤
 HasConflictOf q book (Dear run) = ⊤
 HasConflictOf q book (Undecided lo best) = HasConflictAt q book lo best
 
--- The question was opened by a mark 0 and closed by a mark 1, and the entries between show what was found. At most as many clauses as the budget says were learnt, each of them fresh, and each final one has no literals but negations of what is assumed for some total, or without one.
+-- The question was opened by a mark 0 and closed by a mark 1, and the entries between show what was found. At most as many clauses as the budget says were learnt, each of them fresh, and each final one has no literals but negations of what is assumed for some total, or without one, and there is at most one for each total up to 1,000.
 pub record IsCostAnswered (q : CostAsked) (budget : ℕ) (old new : List BookEntry) (answer : Cheap) : Type 0 where
   pub since : List BookEntry
   pub whole : new ≡ old ++ mark 0 ∷ since ++ mark 1 ∷ []
@@ -152,5 +152,18 @@ pub record IsCostAnswered (q : CostAsked) (budget : ℕ) (old new : List BookEnt
   pub within : count_by is_learnt since ≤ budget
   pub fresh : HaveLearntFresh (old ++ mark 0 ∷ []) since
   pub finals : FinalsNegateCosts q (axioms_of new) since
+  pub finals_few : count_by is_final since ≤ 1 + MOST_COST
   pub found : IsCheapFound q (axioms_of new) since budget answer
   pub conflict : HasConflictOf q new answer
+
+-- ---- without an answer
+
+-- The question was opened by a mark 0 and has no answer: no mark stands behind that one. At most as many clauses as the budget says were learnt, each of them fresh. Each final one negates what is assumed for some total, or without one, and there is at most one for each total.
+pub record IsCostLeftOpen (q : CostAsked) (budget : ℕ) (old new : List BookEntry) : Type 0 where
+  pub since : List BookEntry
+  pub whole : new ≡ old ++ mark 0 ∷ since
+  pub unmarked : (number : ℕ) → count_by (is_mark number) since ≡ 0
+  pub within : count_by is_learnt since ≤ budget
+  pub fresh : HaveLearntFresh (old ++ mark 0 ∷ []) since
+  pub finals : FinalsNegateCosts q (axioms_of new) since
+  pub finals_few : count_by is_final since ≤ 1 + MOST_COST

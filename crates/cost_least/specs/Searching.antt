@@ -1,15 +1,15 @@
 -- A search by halving: what it has found when it asks, and what it needs.
-use Rattle.std.specs.Prelude.{◌≡◌, ℕ, suc, ◌+◌, ◌<◌, ◌≤◌, Bool, List, ◌++◌, Option, Some, Contains, count_by}
+use Rattle.std.specs.Prelude.{◌≡◌, ◌⊎◌, ℕ, suc, ◌+◌, ◌<◌, ◌≤◌, Bool, List, [], ◌∷◌, ◌++◌, Option, Some, Contains, count_by}
 use Rattle.des_net.specs.Network.{Net}
 use Rattle.event_costs.specs.StoredCosts.{GivesCosts}
 use Rattle.event_costs.specs.declared.TheConstants.{MOST_COST}
 use Rattle.least_faults.specs.Answers.{HaveLearntFresh}
 use Rattle.least_faults.specs.Asking.{IsSearching}
-use Rattle.least_faults.specs.Evidence.{HasLastFinal}
+use Rattle.least_faults.specs.Evidence.{HasLastFinal, is_final}
 use Rattle.least_faults.specs.declared.parts.Parts.{Parts}
 use Rattle.log_encode.specs.CodedLog.{CodedLog}
 use Rattle.log_order.specs.Log.{Log}
-use Rattle.proof_ledger.specs.Book.{BookEntry, final, is_mark, axioms_of}
+use Rattle.proof_ledger.specs.Book.{BookEntry, final, mark, is_mark, axioms_of}
 use Rattle.proof_ledger.specs.Fresh.{is_learnt}
 use Rattle.prop_core.specs.Clauses.{Clause, NegatesOnly, value_in}
 use Rattle.weight_counter.specs.Weighing.{weight_true}
@@ -20,7 +20,7 @@ use Rattle.run_decode.specs.Decided.{Entails}
 use Rattle.sat_solve.specs.Searching.{IsAnswer, IsPutFor}
 use Rattle.sat_solve.specs.declared.answer.Answer.{Answer}
 use Rattle.cost_least.specs.Asking.{RulesOut}
-use Rattle.cost_least.specs.Answers.{CostAsked, FinalsNegateCosts, PoseCostQuestion, IsPriced, Needs, IsCheapFound, HasConflictOf, IsCostAnswered}
+use Rattle.cost_least.specs.Answers.{CostAsked, FinalsNegateCosts, PoseCostQuestion, IsPriced, Needs, IsCheapFound, HasConflictOf, IsCostAnswered, IsCostLeftOpen}
 use Rattle.cost_least.specs.Weighed.{AreWeighed, AreWeighedParts, AreWeightedInputs, KeepsCode, assumed_at}
 use Rattle.answers.specs.declared.cheap.Cheap.{Cheap}
 use Rattle.answers.specs.declared.cheap.Priced.{Priced}
@@ -64,17 +64,18 @@ IsTotalOf cost parts total = (inputs : List Weighted) → AreWeightedInputs part
 abbrev pub FinalsAreBelowTotal : CodedLog → Scale → ℕ → List BookEntry → Type 0
 FinalsAreBelowTotal code scale lo since = (clause : Clause) (hints : List ℕ) → Contains since (final clause hints) → (j : ℕ) × (j < lo) × NegatesOnly (assumed_at code scale (Some j)) clause
 
--- What the search has come to: totals below lo are refuted, the last of them by the last final entry, and a run of this total is known.
+-- What the search has come to: totals below lo are refuted, each by one final entry at most, the last of them by the last one, and a run of this total is known.
 pub record HasHalved (q : CostAsked) (code : CodedLog) (scale : Scale) (old new : List BookEntry) (budget_old budget_new lo : ℕ) (best : Priced) : Type 0 where
   pub searching : IsSearching old new budget_old budget_new
   pub finals : FinalsAreBelowTotal code scale lo searching.since
+  pub few : count_by is_final searching.since ≤ lo
   pub last : (b : ℕ) → lo ≡ suc b → HasLastFinal searching.since (assumed_at code scale (Some b))
   pub needs : Needs q lo
   pub reached : lo ≤ 1 + MOST_COST
   pub given : IsPriced q best
   pub counted : 0 < best.cost → 0 < scale.inputs
 
--- The entries that were put show what was found, and no more clauses were learnt than the budget says, each of them fresh. Each final entry negates what is assumed for some total, or without one.
+-- The entries that were put show what was found, and no more clauses were learnt than the budget says, each of them fresh. Each final entry negates what is assumed for some total, or without one, and there is at most one for each total.
 pub record HasFoundCost (q : CostAsked) (budget : ℕ) (old new : List BookEntry) (answer : Cheap) : Type 0 where
   pub since : List BookEntry
   pub whole : new ≡ old ++ since
@@ -82,6 +83,7 @@ pub record HasFoundCost (q : CostAsked) (budget : ℕ) (old new : List BookEntry
   pub within : count_by is_learnt since ≤ budget
   pub fresh : HaveLearntFresh old since
   pub finals : FinalsNegateCosts q (axioms_of new) since
+  pub finals_few : count_by is_final since ≤ 1 + MOST_COST
   pub found : IsCheapFound q (axioms_of new) since budget answer
   pub conflict : HasConflictOf q new answer
 
@@ -98,3 +100,24 @@ pub record HasAnsweredCosts {R C : Type 0} (answers : C → ℕ → ℕ → Type
 -- A clause of negated assumptions that axioms entail which tell what explains within a bound rules that out: nothing explains, or all that does has a greater total.
 abbrev pub CostsAreRuledOut : Type 0
 CostsAreRuledOut = (q : CostAsked) (bound : Option ℕ) (axioms : List Clause) (assumed : List Lit) (clause : Clause) → PoseCostQuestion q bound axioms assumed → Entails axioms clause → NegatesOnly assumed clause → RulesOut q bound
+
+-- ---- without an answer
+
+-- A search ended without one: each final entry that it put negates what is assumed for some total, and there is at most one for each.
+pub record HasRefusedCosts (q : CostAsked) (old new : List BookEntry) : Type 0 where
+  pub since : List BookEntry
+  pub whole : new ≡ old ++ since
+  pub finals : FinalsNegateCosts q (axioms_of new) since
+  pub few : count_by is_final since ≤ 1 + MOST_COST
+
+-- By some costs that the stored closure answers the question is left open, behind the clauses of a scale that weighs its faults with these costs.
+pub record IsLeftWeighed {R C : Type 0} (answers : C → ℕ → ℕ → Type 0) (stored : C) (net : Net) (log : Log) (parts : Parts R) (budget : ℕ) (old new : List BookEntry) : Type 0 where
+  pub cost : ℕ → ℕ
+  pub answered : GivesCosts answers stored net cost
+  pub unanswered : IsCostLeftOpen (asked_of net cost log parts) budget old new
+  pub scale : Scale
+  pub weighed : AreWeighedParts cost parts.step parts.code.coded parts.counter parts.vars (axioms_of new) scale
+
+-- Out of memory the book is as it was, or got the opening mark and nothing behind it, or the question is left open behind its scale.
+abbrev pub LeavesUnpriced : {R C : Type 0} → (C → ℕ → ℕ → Type 0) → C → Net → Log → Parts R → ℕ → List BookEntry → List BookEntry → Type 0
+LeavesUnpriced answers stored net log parts budget old new = (new ≡ old) ⊎ ((new ≡ old ++ mark 0 ∷ []) ⊎ IsLeftWeighed answers stored net log parts budget old new)

@@ -1,7 +1,8 @@
 // One question of the search, without a bound on the total or within one.
-ghost use Rattle.std.specs.Prelude.{◌≡◌, ℕ, ◌≤◌, ◌++◌, IfOk, OnOk, IfSome};
+ghost use Rattle.std.specs.Prelude.{◌≡◌, ℕ, ◌≤◌, ◌++◌, IfOk, OnErr, OnOk, IfSome};
 ghost use Rattle.des_base.specs.declared.TheConstants.{MOST_STEPS};
 ghost use Rattle.event_costs.specs.StoredCosts.{IsCost, GivesCosts};
+ghost use Rattle.least_faults.specs.Asking.{PutsNoFinal};
 ghost use Rattle.least_faults.specs.Parts.{BelongTo};
 ghost use Rattle.prop_core.specs.Clauses.{value_in};
 ghost use Rattle.run_decode.specs.Decoding.{IsTrueRun};
@@ -51,6 +52,7 @@ pub fn ask<C: Fn(u32) -> u32, R: Fn(u32) -> u64>(
     ensures goes_on { GoesOnWeighed R.pre R.post parts.old parts.new question.entry.scale book.old.entries book.new.entries budget.old budget.new }
     ensures given { IfOk result (λ asked. (cost : ℕ → ℕ) → GivesCosts C.post costs.now.cost question.entry.net.now cost → IsGiven (asked_of question.entry.net.now cost question.entry.log.now parts.new) asked) }
     ensures asked { IfOk result (λ asked. (cost : ℕ → ℕ) → GivesCosts C.post costs.now.cost question.entry.net.now cost → AreWeighed R.pre R.post cost parts.old question.entry.scale book.old.entries → HasAskedCost (asked_of question.entry.net.now cost question.entry.log.now parts.new) parts.new.code.coded question.entry.scale within book.old.entries book.new.entries budget.old budget.new asked) }
+    ensures quit { OnErr result (PutsNoFinal book.old.entries book.new.entries) }
 {
     question.net.is_built();
     question.log.is_whole();
@@ -77,6 +79,7 @@ fn solve<R: Fn(u32) -> u64>(
     requires bound { IfSome within (MayBound question.scale) }
     ensures goes_on { GoesOnWeighed R.pre R.post parts.old parts.new question.entry.scale book.old.entries book.new.entries budget.old budget.new }
     ensures solved { IfOk result (IsSolvedUnder (assumed_at parts.new.code.coded question.entry.scale within) parts.new.solver.assignment book.old.entries book.new.entries budget.old budget.new) }
+    ensures quit { OnErr result (PutsNoFinal book.old.entries book.new.entries) }
 {
     question.net.is_built();
     question.log.is_whole();

@@ -1,5 +1,5 @@
 // The search for the least total, by halving: each bound is an assumption of an incremental solver.
-ghost use Rattle.std.specs.Prelude.{◌≡◌, ℕ, ◌<◌, ◌≤◌, min, ◌+◌, [], None, IfOk};
+ghost use Rattle.std.specs.Prelude.{◌≡◌, ℕ, ◌<◌, ◌≤◌, min, ◌+◌, [], None, IfOk, OnErr};
 ghost use Rattle.des_base.specs.declared.TheConstants.{MOST_STEPS};
 ghost use Rattle.event_costs.specs.StoredCosts.{IsCost, GivesCosts};
 ghost use Rattle.event_costs.specs.declared.TheConstants.{MOST_COST};
@@ -8,7 +8,7 @@ ghost use Rattle.least_faults.specs.Parts.{AreReady, BelongTo};
 ghost use Rattle.least_faults.specs.declared.TheConstants.{MOST_SIZE};
 ghost use Rattle.cost_least.specs.Answers.{IsPriced, IsBetween};
 ghost use Rattle.cost_least.specs.Costs.{cost_size};
-ghost use Rattle.cost_least.specs.Searching.{AreAsked, GoesOnWeighed, HasAnsweredCosts, asked_of, HasFoundCost};
+ghost use Rattle.cost_least.specs.Searching.{AreAsked, GoesOnWeighed, HasAnsweredCosts, asked_of, HasFoundCost, HasRefusedCosts, LeavesUnpriced};
 ghost use Rattle.cost_least.specs.Weighed.{AreWeighed, KeepsCode};
 
 use crate::asking::{Asked, ask};
@@ -46,6 +46,7 @@ pub fn cheapest<C: Fn(u32) -> u32, R: Fn(u32) -> u64>(
     ensures kept { KeepsCode parts.old parts.new }
     ensures grown { HasGrownWithin budget book.old.entries book.new.entries }
     ensures answered { IfOk result (HasAnsweredCosts C.post costs.now.cost net.now log.now parts.new budget book.old.entries book.new.entries) }
+    ensures unanswered { OnErr result (LeavesUnpriced C.post costs.now.cost net.now log.now parts.new budget book.old.entries book.new.entries) }
 {
     let mut left = budget;
     book.put_mark(0)?;
@@ -76,6 +77,7 @@ fn search<C: Fn(u32) -> u32, R: Fn(u32) -> u64>(
     requires asked { AreAsked R.pre R.post C.post costs.now.cost question.net.now parts.old question.scale book.old.entries }
     ensures goes_on { GoesOnWeighed R.pre R.post parts.old parts.new question.entry.scale book.old.entries book.new.entries budget.old budget.new }
     ensures found { IfOk result (λ cheap. (cost : ℕ → ℕ) → GivesCosts C.post costs.now.cost question.entry.net.now cost → AreWeighed R.pre R.post cost parts.old question.entry.scale book.old.entries → HasFoundCost (asked_of question.entry.net.now cost question.entry.log.now parts.new) budget.old book.old.entries book.new.entries cheap) }
+    ensures quit { OnErr result ((cost : ℕ → ℕ) → GivesCosts C.post costs.now.cost question.entry.net.now cost → AreWeighed R.pre R.post cost parts.old question.entry.scale book.old.entries → HasRefusedCosts (asked_of question.entry.net.now cost question.entry.log.now parts.new) book.old.entries book.new.entries) }
 {
     question.net.is_built();
     question.log.is_whole();
@@ -105,6 +107,7 @@ fn halve<C: Fn(u32) -> u32, R: Fn(u32) -> u64>(
     requires counted { 0 < known.cost → 0 < question.scale.inputs }
     ensures goes_on { GoesOnWeighed R.pre R.post parts.old parts.new question.entry.scale book.old.entries book.new.entries budget.old budget.new }
     ensures found { IfOk result (λ cheap. (cost : ℕ → ℕ) → GivesCosts C.post costs.now.cost question.entry.net.now cost → AreWeighed R.pre R.post cost parts.old question.entry.scale book.old.entries → HasFoundCost (asked_of question.entry.net.now cost question.entry.log.now parts.new) budget.old book.old.entries book.new.entries cheap) }
+    ensures quit { OnErr result ((cost : ℕ → ℕ) → GivesCosts C.post costs.now.cost question.entry.net.now cost → AreWeighed R.pre R.post cost parts.old question.entry.scale book.old.entries → HasRefusedCosts (asked_of question.entry.net.now cost question.entry.log.now parts.new) book.old.entries book.new.entries) }
 {
     question.net.is_built();
     question.log.is_whole();

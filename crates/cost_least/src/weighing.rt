@@ -1,5 +1,5 @@
 // The clauses that weigh the faults of a question, put into its book.
-ghost use Rattle.std.specs.Prelude.{◌≡◌, ◌<◌, ◌≤◌, ◌+◌, ◌*◌, ◌++◌, ℕ, length, map, IfOk, OnOk};
+ghost use Rattle.std.specs.Prelude.{◌≡◌, ◌<◌, ◌≤◌, ◌+◌, ◌*◌, ◌++◌, ℕ, length, map, IfOk, OnErr, OnOk};
 ghost use Rattle.std.specs.List.{AllByRecursion};
 ghost use Rattle.des_base.specs.declared.TheConstants.{MOST_STEPS, VAR_LIMIT};
 ghost use Rattle.event_costs.specs.StoredCosts.{IsCost};
@@ -44,6 +44,7 @@ pub fn weigh<C: Fn(u32) -> u32, R: Fn(u32) -> u64>(
     requires size { cost_size net.now log.now parts.old.step.steps ≤ MOST_SIZE }
     ensures kept { KeepsCode parts.old parts.new }
     ensures axioms { AddsAxioms book.old.entries book.new.entries }
+    ensures unweighed { OnErr result (book.new.entries ≡ book.old.entries) }
     ensures weighed { IfOk result (λ scale. AreAsked R.pre R.post C.post costs.now.cost net.now parts.new scale book.new.entries) }
 {
     net.is_built();
@@ -64,6 +65,7 @@ fn write_scale<R: Fn(u32) -> u64>(
     requires below { AllByRecursion (λ x. x.input.var < parts.old.vars) inputs.now }
     ensures kept { KeepsCode parts.old parts.new }
     ensures axioms { AddsAxioms book.old.entries book.new.entries }
+    ensures unweighed { OnErr result (book.new.entries ≡ book.old.entries) }
     ensures weighed { IfOk result (λ scale. (cost : ℕ → ℕ) → AreWeightedInputs parts.old.step parts.old.code.coded cost inputs.now → AreWeighed R.pre R.post cost parts.new scale book.new.entries) }
 {
     let places = inputs.len() * AMOUNTS as usize;

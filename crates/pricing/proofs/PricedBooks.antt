@@ -4,7 +4,7 @@ use Rattle.std.specs.List.{AllByRecursion, list_any}
 use Rattle.std.proofs.Math.Nat.{pow-le-pow_right}
 use Rattle.std.proofs.lemmas.List.FromFn.{length-range_with_len}
 use Rattle.cost_least.proofs.Fitting.{first_few, inputs_below, inputs_counted}
-use Rattle.cost_least.proofs.SameCosts.{same_answered, same_parts}
+use Rattle.cost_least.proofs.SameCosts.{same_answered, same_open, same_parts}
 use Rattle.cost_least.specs.Weighed.{AreWeighedParts}
 use Rattle.answers.specs.declared.cheap.Cheap.{Cheap}
 use Rattle.answers.specs.declared.cheap.Cheap.TheVariants.{Undecided}
@@ -17,6 +17,7 @@ use Rattle.des_net.specs.QuestionSize.{fault_event_count}
 use Rattle.least_faults.proofs.Below.{axioms_below}
 use Rattle.least_faults.proofs.FreshCount.{fresh_below}
 use Rattle.least_faults.specs.Bounds.{question_variables}
+use Rattle.inquiries.specs.Begun.{unasked_book}
 use Rattle.log_encode.specs.CodedLog.{CodedLog}
 use Rattle.log_order.specs.Log.{Log}
 use Rattle.proof_ledger.specs.Book.{BookEntry, axiomatic, mark, axioms_of}
@@ -54,7 +55,14 @@ priced_alike net a b alike log n budget book answer h = record {
 
 pub leaves_alike : (net : Net) (a b : ℕ → ℕ) (alike : CostAlike net a b) (log : Log) (n budget : ℕ) (book : List BookEntry) → LeavesCosts net a log n budget book → LeavesCosts net b log n budget book
 leaves_alike net a b alike log n budget book (inl empty) = inl empty
-leaves_alike net a b alike log n budget book (inr (answer, h)) = inr (answer, priced_alike net a b alike log n budget book answer h)
+leaves_alike net a b alike log n budget book (inr (inl (inl unasked))) = inr (inl (inl unasked))
+leaves_alike net a b alike log n budget book (inr (inl (inr (inl opened)))) = inr (inl (inr (inl opened)))
+leaves_alike net a b alike log n budget book (inr (inl (inr (inr h)))) = inr (inl (inr (inr (record {
+  unanswered = same_open net a b alike log n budget (unasked_book net log n) book h.unanswered;
+  question = question_alike net a b alike log n book h.question;
+  valid = h.valid;
+}))))
+leaves_alike net a b alike log n budget book (inr (inr (answer, h))) = inr (inr (answer, priced_alike net a b alike log n budget book answer h))
 
 -- ---- variables below a number
 

@@ -1,6 +1,6 @@
 -- A question of costs: what is found of the least total, and what stays of it in the book.
-use Rattle.std.specs.Prelude.{◌≡◌, ◌⊎◌, ◌<◌, ◌≤◌, ◌+◌, ◌*◌, ℕ, true, List, [], length, map, Option}
-use Rattle.cost_least.specs.Answers.{IsCostAnswered}
+use Rattle.std.specs.Prelude.{◌≡◌, ◌⊎◌, ◌<◌, ◌≤◌, ◌+◌, ◌*◌, ℕ, true, List, [], ◌∷◌, ◌++◌, length, map, Option}
+use Rattle.cost_least.specs.Answers.{IsCostAnswered, IsCostLeftOpen}
 use Rattle.cost_least.specs.Costs.{cost_size}
 use Rattle.cost_least.specs.Weighed.{AreWeighedParts}
 use Rattle.answers.specs.declared.cheap.Cheap.{Cheap}
@@ -9,11 +9,12 @@ use Rattle.des_net.specs.Network.{Net, is_fault}
 use Rattle.des_net.specs.QuestionSize.{fault_event_count}
 use Rattle.event_costs.specs.Prices.{cost_at}
 use Rattle.event_costs.specs.declared.TheConstants.{MOST_COST}
+use Rattle.inquiries.specs.Begun.{unasked_book}
 use Rattle.least_faults.specs.Bounds.{question_variables}
 use Rattle.least_faults.specs.Parts.{IsWithinLimits}
 use Rattle.least_faults.specs.declared.TheConstants.{MOST_SIZE}
 use Rattle.log_order.specs.Log.{Log}
-use Rattle.proof_ledger.specs.Book.{BookEntry, IsValidBook, axiomatic, axioms_of}
+use Rattle.proof_ledger.specs.Book.{BookEntry, IsValidBook, axiomatic, axioms_of, mark}
 use Rattle.replay.specs.QuestionSize.{doubtful_count}
 use Rattle.run_decode.specs.Decoding.{BelongTogether}
 use Rattle.run_decode.specs.QuestionAxioms.{question_axioms, question_built}
@@ -56,6 +57,16 @@ pub record IsPricedBy (net : Net) (cost : ℕ → ℕ) (log : Log) (n budget : �
   pub question : HasCostQuestion net cost log n book
   pub valid : IsValidBook book
 
--- the book is empty, or that of an answer
+-- The book is valid. It has the axioms of the question first, then what weighs its faults, and then what a search put that has no answer.
+pub record IsLeftUnpriced (net : Net) (cost : ℕ → ℕ) (log : Log) (n budget : ℕ) (book : List BookEntry) : Type 0 where
+  pub unanswered : IsCostLeftOpen (record { net = net; cost = cost; log = log; steps = n }) budget (unasked_book net log n) book
+  pub question : HasCostQuestion net cost log n book
+  pub valid : IsValidBook book
+
+-- the question stands in the book and has no answer: its axioms alone, or with the opening mark, or what a search put
+abbrev pub StaysUnpriced : Net → (ℕ → ℕ) → Log → (n budget : ℕ) → List BookEntry → Type 0
+StaysUnpriced net cost log n budget book = (book ≡ unasked_book net log n) ⊎ ((book ≡ unasked_book net log n ++ mark 0 ∷ []) ⊎ IsLeftUnpriced net cost log n budget book)
+
+-- the book is empty, or the question stands in it, with an answer or without one
 abbrev pub LeavesCosts : Net → (ℕ → ℕ) → Log → (n budget : ℕ) → List BookEntry → Type 0
-LeavesCosts net cost log n budget book = (book ≡ []) ⊎ ((answer : Cheap) × IsPricedBy net cost log n budget book answer)
+LeavesCosts net cost log n budget book = (book ≡ []) ⊎ (StaysUnpriced net cost log n budget book ⊎ ((answer : Cheap) × IsPricedBy net cost log n budget book answer))

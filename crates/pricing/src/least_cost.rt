@@ -15,7 +15,7 @@ use std::alloc::Global;
 
 /// Asks for the least total cost of a run that explains the log, by a search that may learn as many clauses as the budget says. Fault
 /// events cost what the table says, and a false alarm costs 1. The clauses that weigh them stand behind those of the question. After
-/// want of memory the book is empty.
+/// want of memory the book has the axioms of the question, and what was put behind them so far.
 #[derive(Clone, Copy)]
 pub struct LeastCost<'a> {
     pub table: &'a CostTable,
@@ -40,17 +40,11 @@ impl Inquiry for LeastCost<'_> {
         parts: &mut Parts<R>,
         book: &mut Ledger,
     ) -> Result<Cheap, Memory> {
-        match price(alloc, case, parts, self.table, self.budget, book) {
-            Ok(cheap) => Ok(cheap),
-            Err(Memory) => {
-                *book = Ledger::new(alloc);
-                Err(Memory)
-            }
-        }
+        price(alloc, case, parts, self.table, self.budget, book)
     }
 }
 
-// Asks by the costs of a table. After want of memory the book may hold what was put so far.
+// Asks by the costs of a table.
 fn price<R: Fn(u32) -> u64>(
     alloc: Global,
     case: &Case,
@@ -62,7 +56,8 @@ fn price<R: Fn(u32) -> u64>(
     requires begun { HasBegun R.pre R.post case.now.net case.now.log parts.old book.old.entries }
     requires limits { IsWithinCosts case.now.net case.now.log parts.old.step.steps }
     requires long { length table.now ≡ length case.now.net.events }
-    ensures { IfOk result (IsPricedBy case.now.net (cost_at table.now) case.now.log parts.old.step.steps budget book.new.entries) }
+    ensures priced { IfOk result (IsPricedBy case.now.net (cost_at table.now) case.now.log parts.old.step.steps budget book.new.entries) }
+    ensures left { LeavesCosts case.now.net (cost_at table.now) case.now.log parts.old.step.steps budget book.new.entries }
 {
     let costs = Costs::new(&case.net, |event: u32| table.cost(event));
     price_by(alloc, case, parts, &costs, budget, book)
@@ -81,7 +76,8 @@ fn price_by<C: Fn(u32) -> u32, R: Fn(u32) -> u64>(
     requires net { costs.now.net ≡ case.now.net }
     requires begun { HasBegun R.pre R.post case.now.net case.now.log parts.old book.old.entries }
     requires limits { IsWithinCosts case.now.net case.now.log parts.old.step.steps }
-    ensures { (table : List (Option ℕ)) → AnswersTable C.post costs.now.cost case.now.net table → IfOk result (IsPricedBy case.now.net (cost_at table) case.now.log parts.old.step.steps budget book.new.entries) }
+    ensures priced { (table : List (Option ℕ)) → AnswersTable C.post costs.now.cost case.now.net table → IfOk result (IsPricedBy case.now.net (cost_at table) case.now.log parts.old.step.steps budget book.new.entries) }
+    ensures left { (table : List (Option ℕ)) → AnswersTable C.post costs.now.cost case.now.net table → LeavesCosts case.now.net (cost_at table) case.now.log parts.old.step.steps budget book.new.entries }
 {
     let cheap = cheapest(alloc, &case.net, &case.log, parts, costs, book, budget);
     book.entries();

@@ -2,7 +2,9 @@ use Rattle.std.proofs.Common.{◌≤◌, arith, subst, sym}
 use Rattle.des_base.specs.declared.TheConstants.{MOST_STEPS}
 use Rattle.step_encode.specs.Coded.{CodedSteps}
 use Rattle.cost_least.proofs.Answering.{shown_explained, shown_refuted, shown_run, shown_spent}
+use Rattle.cost_least.proofs.Finding.{model_alone}
 use Rattle.cost_least.proofs.Weighed.{belongs_still}
+use Rattle.des_base.proofs.Results.{on_err}
 use Rattle.cost_least.proofs.asking.ask.Goals as goal
 
 pub solve-requires-clause-weighed : goal.solve-requires-clause-weighed
@@ -45,3 +47,6 @@ returns-in_ok-found_run-in-Sat-clause-asked g c = λ cost answered weighed.
     shown_explained _ _ cost c.solve.new.parts c.args.question.scale _ _ c.args.within _ _ _ _ _ (c.solve.ensures.goes_on.still cost weighed) (belongs_still _ _ c.args.parts.now c.solve.new.parts c.solve.ensures.goes_on.kept c.requires.belong)
     c.is_built.ensures.network c.is_whole.ensures.whole.valid c.has_guards.ensures c.requires.bound c.in_ok-answer.ensures.solved c.in_ok-found_run-in-Sat.field-0 c.in-Sat.is
     (c.in_ok-found_run-in-Sat.ensures.given cost answered) (c.in_ok-found_run-in-Sat.ensures.total cost answered)
+
+pub returns-in_err-found_run-in-Sat-clause-quit : goal.returns-in_err-found_run-in-Sat-clause-quit
+returns-in_err-found_run-in-Sat-clause-quit g c = on_err _ _ (model_alone _ _ _ _ _ _ _ c.in_ok-answer.ensures.solved c.in-Sat.is)

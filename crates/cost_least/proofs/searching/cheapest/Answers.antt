@@ -1,4 +1,5 @@
-use Rattle.std.proofs.Common.{◌≤◌, ◌∙◌, List, ap, subst, sym}
+use Rattle.std.proofs.Common.{◌≤◌, ◌∙◌, List, ap, inl, inr, subst, sym}
+use Rattle.des_base.proofs.Results.{on_err}
 use Rattle.des_base.specs.declared.TheConstants.{MOST_STEPS}
 use Rattle.least_faults.proofs.Closing.{grown_closed, grown_not, marked_ready}
 use Rattle.least_faults.specs.Growing.{HasGrownWithin}
@@ -6,9 +7,9 @@ use Rattle.proof_ledger.specs.Book.{axioms_of}
 use Rattle.proof_ledger.specs.Kept.{LedgerState}
 use Rattle.prop_core.specs.Clauses.{Clause}
 use Rattle.step_encode.specs.Coded.{CodedSteps}
-use Rattle.cost_least.proofs.Finding.{answered, grown_weighed, grown_searched}
+use Rattle.cost_least.proofs.Finding.{answered, grown_weighed, grown_searched, left_open, refused_by}
 use Rattle.cost_least.proofs.Weighed.{belongs_still, keeps_same, keeps_both}
-use Rattle.cost_least.specs.Searching.{asked_of}
+use Rattle.cost_least.specs.Searching.{LeavesUnpriced, asked_of}
 use Rattle.cost_least.specs.Weighed.{AreWeighedParts}
 use Rattle.cost_least.proofs.searching.cheapest.Goals as goal
 use Rattle.proof_ledger.proofs.AxiomLists.{marked_axioms}
@@ -70,3 +71,37 @@ returns-clause-answered g c =
       weighed = subst (λ (axioms : List Clause). AreWeighedParts asked.cost now.step now.code.coded now.counter now.vars axioms c.in_ok-scale.scale) (sym (ap axioms_of closing ∙ marked_axioms c.search.new.book.entries 1))
           (c.search.ensures.goes_on.still asked.cost asked.weighed).coded;
     }
+
+-- ---- without an answer
+
+pub returns-in_err-put_mark-clause-unanswered : goal.returns-in_err-put_mark-clause-unanswered
+returns-in_err-put_mark-clause-unanswered g c = on_err _ _ (inl (ap (λ (b : LedgerState). b.entries) c.in_err-put_mark.ensures.err))
+
+pub returns-in_err-scale-clause-unanswered : goal.returns-in_err-scale-clause-unanswered
+returns-in_err-scale-clause-unanswered g c = on_err _ _ (inr (inl (c.in_err-scale.ensures.unweighed ∙ ap (λ (b : LedgerState). b.entries) c.in_ok-put_mark.ensures.added)))
+
+pub returns-in_err-cheap-clause-unanswered : goal.returns-in_err-cheap-clause-unanswered
+returns-in_err-cheap-clause-unanswered g c =
+    let asked = c.in_ok-scale.ensures.weighed in
+    let now = c.search.new.parts in
+    on_err _ _ (inr (inr (record {
+      cost = asked.cost;
+      answered = asked.answered;
+      unanswered = left_open (asked_of c.args.net.now asked.cost c.args.log.now now) c.args.budget c.search.new.budget c.args.book.now.entries c.put_mark.new.self.entries c.weigh.new.book.entries c.search.new.book.entries
+          (ap (λ (b : LedgerState). b.entries) c.in_ok-put_mark.ensures.added) c.weigh.ensures.axioms c.search.ensures.goes_on.searching (c.in_err-cheap.ensures.quit asked.cost asked.answered asked.weighed);
+      scale = c.in_ok-scale.scale;
+      weighed = (c.search.ensures.goes_on.still asked.cost asked.weighed).coded;
+    })))
+
+pub returns-in_err-put_mark-2-clause-unanswered : goal.returns-in_err-put_mark-2-clause-unanswered
+returns-in_err-put_mark-2-clause-unanswered g c =
+    let asked = c.in_ok-scale.ensures.weighed in
+    let now = c.search.new.parts in
+    on_err _ _ (subst (λ (b : LedgerState). LeavesUnpriced (goal.C-post g) c.args.costs.now.cost c.args.net.now c.args.log.now now c.args.budget c.args.book.now.entries b.entries) (sym c.in_err-put_mark-2.ensures.err) (inr (inr (record {
+      cost = asked.cost;
+      answered = asked.answered;
+      unanswered = left_open (asked_of c.args.net.now asked.cost c.args.log.now now) c.args.budget c.search.new.budget c.args.book.now.entries c.put_mark.new.self.entries c.weigh.new.book.entries c.search.new.book.entries
+          (ap (λ (b : LedgerState). b.entries) c.in_ok-put_mark.ensures.added) c.weigh.ensures.axioms c.search.ensures.goes_on.searching (refused_by _ _ _ _ _ (c.in_ok-cheap.ensures.found asked.cost asked.answered asked.weighed));
+      scale = c.in_ok-scale.scale;
+      weighed = (c.search.ensures.goes_on.still asked.cost asked.weighed).coded;
+    }))))

@@ -1,7 +1,8 @@
 use Rattle.std.proofs.Common.{◌≤◌, arith, subst, sym}
+use Rattle.des_base.proofs.Results.{on_err}
 use Rattle.des_base.specs.declared.TheConstants.{MOST_STEPS}
 use Rattle.step_encode.specs.Coded.{CodedSteps}
-use Rattle.cost_least.proofs.Rounds.{come_further, come_lower, come_to_none, come_to_spent, come_with_better, ends_cheapest, ends_dear, ends_undecided}
+use Rattle.cost_least.proofs.Rounds.{come_further, come_lower, come_to_none, come_to_spent, come_with_better, ends_cheapest, ends_dear, ends_undecided, quits_at}
 use Rattle.cost_least.proofs.Weighed.{belongs_still, goes_both}
 use Rattle.cost_least.proofs.searching.halve.Goals as goal
 
@@ -74,3 +75,8 @@ returns-else-best-gt-MOST_COST-clause-found g c =
     let side = c.if-best-gt-MOST_COST.false in
     λ cost answered weighed. ends_cheapest _ _ _ c.args.costs.now.cost _ _ c.args.parts.now c.args.question.scale c.args.book.now.entries c.args.budget.now c.requires.belong c.is_built.ensures.network c.is_whole.ensures.whole.valid c.has_guards.ensures
     c.loop-lo.parts _ _ _ _ c.loop-lo.invariant (omega (arith, end, most)) cost answered weighed (omega (arith, side))
+
+pub returns-in_err-asked-clause-quit : goal.returns-in_err-asked-clause-quit
+returns-in_err-asked-clause-quit g c =
+    on_err _ _ (quits_at _ _ (goal.C-post g) c.args.costs.now.cost _ _ c.args.parts.now c.args.question.scale c.args.book.now.entries c.args.budget.now c.requires.belong c.is_built.ensures.network c.is_whole.ensures.whole.valid c.has_guards.ensures
+    c.loop-lo.parts c.ask.new.parts _ _ _ _ _ _ c.loop-lo.invariant c.ask.ensures.goes_on c.in_err-asked.ensures.quit)

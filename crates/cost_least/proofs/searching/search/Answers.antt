@@ -1,12 +1,14 @@
 use Rattle.std.proofs.Common.{◌≤◌, ℕ, subst, sym}
-use Rattle.std.proofs.lemmas.Result.{IfOk-weaker as ok_weaker}
+use Rattle.std.proofs.lemmas.Result.{IfOk-weaker as ok_weaker, on_err_weaker}
+use Rattle.des_base.proofs.Results.{on_err}
 use Rattle.des_base.specs.declared.TheConstants.{MOST_STEPS}
 use Rattle.event_costs.specs.StoredCosts.{GivesCosts}
 use Rattle.step_encode.specs.Coded.{CodedSteps}
-use Rattle.cost_least.proofs.Rounds.{ends_absent, ends_later, ends_unknown, known_counted}
+use Rattle.cost_least.proofs.Rounds.{ends_absent, ends_later, ends_unknown, known_counted, quits_later}
+use Rattle.cost_least.proofs.Finding.{refused_none}
 use Rattle.cost_least.proofs.Weighed.{belongs_still, goes_both}
 use Rattle.cost_least.specs.Asking.{IsGiven}
-use Rattle.cost_least.specs.Searching.{HasFoundCost, asked_of}
+use Rattle.cost_least.specs.Searching.{HasFoundCost, HasRefusedCosts, asked_of}
 use Rattle.cost_least.specs.Weighed.{AreWeighed}
 use Rattle.cost_least.proofs.searching.search.Goals as goal
 
@@ -57,3 +59,21 @@ returns-in-Explained-clause-found g c =
     ends_later _ _ (goal.C-post g) c.args.costs.now.cost _ _ c.args.parts.now c.args.question.scale c.args.book.now.entries c.args.budget.now c.requires.belong c.is_built.ensures.network c.is_whole.ensures.whole.valid c.has_guards.ensures
     c.ask.new.parts _ _ _ c.ask.ensures.goes_on c.in_ok-ask.ensures.asked cost answered weighed (asked_of net cost log last) new cheap c.in-Explained.known c.in-Explained.is (found cost answered (c.ask.ensures.goes_on.still cost weighed)))
     c.halve.ensures.found
+
+pub returns-in_err-ask-clause-quit : goal.returns-in_err-ask-clause-quit
+returns-in_err-ask-clause-quit g c =
+    let net = c.args.question.net.now in
+    let log = c.args.question.log.now in
+    let old = c.args.book.now.entries in
+    let none : (cost : ℕ → ℕ) → GivesCosts (goal.C-post g) c.args.costs.now.cost net cost → AreWeighed (goal.R-pre g) (goal.R-post g) cost c.args.parts.now c.args.question.scale old → HasRefusedCosts (asked_of net cost log c.ask.new.parts) old c.ask.new.book.entries = λ cost answered weighed.
+    refused_none (asked_of net cost log c.ask.new.parts) old c.ask.new.book.entries c.in_err-ask.ensures.quit in
+    on_err _ _ none
+
+pub returns-in-Explained-clause-quit : goal.returns-in-Explained-clause-quit
+returns-in-Explained-clause-quit g c =
+    let net = c.args.question.net.now in
+    let log = c.args.question.log.now in
+    on_err_weaker c.halve.result (λ quit. λ cost answered weighed.
+    quits_later _ _ (goal.C-post g) c.args.costs.now.cost _ _ c.args.parts.now c.args.question.scale c.args.book.now.entries c.args.budget.now c.requires.belong c.is_built.ensures.network c.is_whole.ensures.whole.valid c.has_guards.ensures
+    c.ask.new.parts _ _ _ c.ask.ensures.goes_on c.in_ok-ask.ensures.asked cost answered weighed (asked_of net cost log c.halve.new.parts) c.halve.new.book.entries c.in-Explained.known c.in-Explained.is
+    (quit cost answered (c.ask.ensures.goes_on.still cost weighed))) c.halve.ensures.quit
