@@ -3,7 +3,7 @@ use Rattle.std.proofs.Common.{◌≡◌, ℕ, List, [], ◌∷◌, Option, Some,
 use Rattle.des_base.specs.CommandWords.{word_at}
 use Rattle.des_net.specs.Network.{Net}
 use Rattle.event_costs.specs.CostText.{cost_of}
-use Rattle.inquiries.specs.Begun.{HasLearntWithin, LeavesQuestion}
+use Rattle.inquiries.specs.Begun.{HasAskedWithin, LeavesQuestion}
 use Rattle.pricing.specs.LeastCost.{LeavesCosts}
 use Rattle.gen_plant.specs.Plant.{plant_net, plant_log}
 use Rattle.log_csv.specs.LogText.{log_of}
@@ -46,7 +46,7 @@ module _ (held : List ℕ → Option (List ℕ)) (words : List (List ℕ)) (book
   left_question steps left (text ∷ alarms ∷ []) told = left text alarms told
   left_question steps left (text ∷ alarms ∷ more ∷ texts) told = tt
 
-  pub left_bench : (units start steps budget : ℕ) → LeavesQuestion (plant_net units) (plant_log units start) steps (HasLearntWithin budget) book → LeftBy (One (Bench units start steps budget))
+  pub left_bench : (units start steps budget : ℕ) → LeavesQuestion (plant_net units) (plant_log units start) steps (HasAskedWithin budget) book → LeftBy (One (Bench units start steps budget))
   left_bench units start steps budget left [] told = left
   left_bench units start steps budget left (text ∷ texts) told = tt
 

@@ -7,7 +7,7 @@ use Rattle.des_base.specs.Outside.{Took}
 use Rattle.des_net.specs.Network.{Net}
 use Rattle.event_costs.specs.CostText.{cost_of}
 use Rattle.gen_plant.specs.Plant.{plant_net, plant_log}
-use Rattle.inquiries.specs.Begun.{HasLearntWithin, LeavesQuestion, MayLearn}
+use Rattle.inquiries.specs.Begun.{HasAskedWithin, LeavesQuestion, MayLearn}
 use Rattle.pricing.specs.LeastCost.{LeavesCosts}
 use Rattle.answers.specs.Explanations.{IsExplanation}
 use Rattle.least_faults.specs.Answers.{asked_last, HasConflict}
@@ -175,10 +175,10 @@ pub record DiagnoseRows (o : Outcome) : Type 0 where
 abbrev pub LeavesRequest : Request → Net → Log → ℕ → List BookEntry → Type 0
 LeavesRequest request net log n book = IfRequest request (λ question word. LeavesQuestion net log n (MayLearn (question.budget word)) book)
 
--- Of a command that asks one question: nothing, or a book whose axioms are those of the question by its words and over the bytes of its files. No more was learnt than its budget says, and without one nothing. Of `twin` and `cheapest`: nothing, or the book of an answer. Of `verdicts`: nothing, or a book that begins with the question of the log.
+-- Of a command that asks one question: nothing, or a book whose axioms are those of the question by its words and over the bytes of its files. It was asked once at most with its budget, and without one nothing was asked. Of `twin` and `cheapest`: nothing, or a book in which the question stands, answered, left open, or not opened. Of `verdicts`: nothing, or a book that begins with the question of the log, and behind which fault events were judged in order.
 abbrev pub Leaves : Command → List (List ℕ) → List (List ℕ) → List BookEntry → Type 0
 Leaves (One (Ask steps)) words (text ∷ alarms ∷ []) book = LeavesRequest (request_of words) (network_of text) (log_of alarms) steps book
-Leaves (One (Bench units start steps budget)) words [] book = LeavesQuestion (plant_net units) (plant_log units start) steps (HasLearntWithin budget) book
+Leaves (One (Bench units start steps budget)) words [] book = LeavesQuestion (plant_net units) (plant_log units start) steps (HasAskedWithin budget) book
 Leaves (One (Twin steps after budget)) words (text ∷ []) book = LeavesOfWord (network_of text) (word_at words 2) steps after budget book
 Leaves (One (Cheapest steps budget)) words (text ∷ alarms ∷ prices ∷ []) book = LeavesCosts (network_of text) (cost_of (network_of text) prices) (log_of alarms) steps budget book
 Leaves (Verdicts steps budget) words (text ∷ alarms ∷ []) book = LeavesVerdicts (network_of text) (log_of alarms) steps budget book

@@ -8,7 +8,7 @@ ghost use Rattle.endings.specs.Files.{Loads};
 ghost use Rattle.endings.specs.Transcripts.{UnlessMemory, once};
 ghost use Rattle.diagnose_cli.specs.Replies.{first_line};
 ghost use Rattle.diagnose_cli.specs.Due.{MayAnswer, Closes};
-ghost use Rattle.inquiries.specs.Begun.{HasLearntWithin, LeavesQuestion};
+ghost use Rattle.inquiries.specs.Begun.{HasAskedWithin, LeavesQuestion};
 
 use crate::asking::ask_by;
 use crate::command::{Command, Limits, Single};
@@ -34,7 +34,7 @@ pub fn bench_command(
     requires empty { book.old.entries ≡ [] }
     ensures due { (l : Loads) (words : List (List ℕ)) → UnlessMemory result (MayAnswer l words (Command.One (Single.Bench units start limits.steps limits.budget)) book.new.entries (once result)) }
     ensures stopped { IfErr result (λ stop. stop ≢ Stop.Memory → book.new ≡ book.old) }
-    ensures left { LeavesQuestion (plant_net units) (plant_log units start) limits.steps (HasLearntWithin limits.budget) book.new.entries }
+    ensures left { LeavesQuestion (plant_net units) (plant_log units start) limits.steps (HasAskedWithin limits.budget) book.new.entries }
 {
     let plant = generate(alloc, units, start)?;
     let case = Case {
@@ -58,7 +58,7 @@ fn bench(
     requires empty { book.old.entries ≡ [] }
     ensures due { (words : List (List ℕ)) (start : ℕ) → case.now.net ≡ plant_net units → case.now.log ≡ plant_log units start → UnlessMemory result (Closes (Command.One (Single.Bench units start limits.steps limits.budget)) words book.new.entries [] (once result)) }
     ensures stopped { IfErr result (λ stop. stop ≢ Stop.Memory → book.new ≡ book.old) }
-    ensures left { LeavesQuestion case.now.net case.now.log limits.steps (HasLearntWithin limits.budget) book.new.entries }
+    ensures left { LeavesQuestion case.now.net case.now.log limits.steps (HasAskedWithin limits.budget) book.new.entries }
 {
     let size = question_size(&case.net, &case.log, limits.steps);
     if size > MOST_SIZE {

@@ -1,13 +1,14 @@
 -- A question that is built into an empty book, what is found then, and what is left of it.
-use Rattle.std.proofs.Common.{◌≡◌, ◌≤◌, ℕ, List, [], ◌++◌, length, map, Some, Result, Ok, Err, IfOk, ap, arith, count_by, ◌∙◌, refl, subst, sym}
+use Rattle.std.proofs.Common.{◌≡◌, ◌≤◌, ℕ, List, [], ◌++◌, length, map, Some, None, Result, Ok, Err, IfOk, OnErr, ◌⊎◌, inl, inr, ap, arith, count_by, ◌∙◌, refl, subst, sym}
 use Rattle.std.specs.Result.{result_ok}
 use Rattle.des_base.specs.declared.TheConstants.{MOST_STEPS}
+use Rattle.des_base.specs.declared.memory.Memory.{Memory}
 use Rattle.des_net.specs.Network.{Net}
 use Rattle.least_faults.proofs.AxiomLists.{adds_both}
 use Rattle.least_faults.proofs.Freshness.{fresh_axioms, fresh_both}
 use Rattle.answers.specs.declared.found.Found.{Found}
 use Rattle.least_faults.specs.declared.parts.Parts.{Parts}
-use Rattle.least_faults.specs.Answers.{HaveLearntFresh, IsAnswered}
+use Rattle.least_faults.specs.Answers.{HaveLearntFresh, IsAnswered, IsOpenAtMost}
 use Rattle.least_faults.proofs.Staying.{belong_still, built_still}
 use Rattle.least_faults.specs.Building.{AreBuilt}
 use Rattle.least_faults.specs.Growing.{AddsAxioms, HasGrownWithin, KeepsQuestion}
@@ -20,7 +21,7 @@ use Rattle.prop_core.specs.VariableNames.{Meaning}
 use Rattle.run_decode.proofs.Faults.{count_append}
 use Rattle.run_decode.specs.QuestionAxioms.{BuiltQuestion, question_axioms, question_built}
 use Rattle.sat_solve.specs.Solving.{SolverState}
-use Rattle.inquiries.specs.Begun.{ArePartsOf, HasAxiomsAlone, HasBegun, HasLearntWithin, HasQuestion}
+use Rattle.inquiries.specs.Begun.{ArePartsOf, HasAskedWithin, HasBegun, HasLearntWithin, HasQuestion, IsAnsweredOnce, IsOpenOnce, MayLearn, unasked_book}
 use Rattle.inquiries.specs.Diagnosed.{IsDiagnosed}
 use Rattle.proof_ledger.proofs.AxiomLists.{axioms_added, none_learnt}
 
@@ -96,12 +97,12 @@ module _ {R : Type 0} (may : R → ℕ → Type 0) (gives : R → ℕ → ℕ �
   first_built = question_begins net log parts.step.steps parts old begun.columns begun.parts_of.built
 
   -- and so are the axioms of the book
-  pub question_left : (P : List BookEntry → Type 0) → P book → HasQuestion net log parts.step.steps P book
+  pub question_left : (P : Net → Log → ℕ → List BookEntry → Type 0) → P net log parts.step.steps book → HasQuestion net log parts.step.steps P book
   question_left P beside = record { columns = length later.counter.columns; axioms = ap (λ (q : BuiltQuestion). q.axioms) stays_built.determined; beside = beside }
 
-  -- with what a search learnt, or with further axioms alone
-  pub search_left : (budget : ℕ) → HasGrownWithin budget old book → IsValidBook book → HasQuestion net log parts.step.steps (HasLearntWithin budget) book
-  search_left budget grown valid = question_left (HasLearntWithin budget) (record {
+  -- what a search learnt
+  learnt_left : (budget : ℕ) → HasGrownWithin budget old book → IsValidBook book → HasLearntWithin budget book
+  learnt_left budget grown valid = record {
     within = (let none = ap (count_by is_learnt) begun.axioms ∙ none_learnt (question_axioms net log parts.step.steps 0) in
         let all = ap (count_by is_learnt) grown.whole ∙ count_append is_learnt old grown.since in
         let few = grown.within in
@@ -109,10 +110,29 @@ module _ {R : Type 0} (may : R → ℕ → Type 0) (gives : R → ℕ → ℕ �
     fresh = (let axioms = question_axioms net log parts.step.steps 0 in
         subst (HaveLearntFresh []) (sym grown.whole) (fresh_both [] old old grown.since refl (subst (HaveLearntFresh []) (sym begun.axioms) (fresh_axioms [] axioms)) grown.fresh));
     valid = valid;
+  }
+
+  -- it has an answer, or the question is open at most
+  asked_left : (budget : ℕ) (result : Result Found Memory) → IfOk result (IsAnswered (meanings_of_parts later) (built_of parts old) net log later.step.steps budget old book) → OnErr result (IsOpenAtMost (meanings_of_parts later) net log later.step.steps budget old book) →
+      IsAnsweredOnce net log parts.step.steps budget book ⊎ IsOpenOnce net log parts.step.steps budget book
+  asked_left budget (Ok found) answered unanswered = inl (record {
+    meanings = meanings_of_parts later;
+    found = found;
+    answered = subst (λ (q : BuiltQuestion). IsAnswered (meanings_of_parts later) q net log parts.step.steps budget (unasked_book net log parts.step.steps) book found) first_built
+        (subst (λ (o : List BookEntry). IsAnswered (meanings_of_parts later) (built_of parts old) net log parts.step.steps budget o book found) begun.axioms (subst (λ (k : ℕ). IsAnswered (meanings_of_parts later) (built_of parts old) net log k budget old book found) steps_stay answered));
+  })
+  asked_left budget (Err memory) answered unanswered = inr (record {
+    meanings = meanings_of_parts later;
+    unanswered = subst (λ (o : List BookEntry). IsOpenAtMost (meanings_of_parts later) net log parts.step.steps budget o book) begun.axioms (subst (λ (k : ℕ). IsOpenAtMost (meanings_of_parts later) net log k budget old book) steps_stay unanswered);
   })
 
-  pub axioms_left : AddsAxioms old book → HasQuestion net log parts.step.steps HasAxiomsAlone book
-  axioms_left adds = question_left HasAxiomsAlone (axioms_alone book (adds_both [] old book (record { axioms = question_axioms net log parts.step.steps 0; more = begun.axioms }) adds))
+  -- with what a search put, or with further axioms alone
+  pub search_left : (budget : ℕ) (result : Result Found Memory) → HasGrownWithin budget old book → IfOk result (IsAnswered (meanings_of_parts later) (built_of parts old) net log later.step.steps budget old book) →
+      OnErr result (IsOpenAtMost (meanings_of_parts later) net log later.step.steps budget old book) → IsValidBook book → HasQuestion net log parts.step.steps (HasAskedWithin budget) book
+  search_left budget result grown answered unanswered valid = question_left (HasAskedWithin budget) (record { learnt = learnt_left budget grown valid; once = asked_left budget result answered unanswered })
+
+  pub axioms_left : AddsAxioms old book → HasQuestion net log parts.step.steps (MayLearn None) book
+  axioms_left adds = question_left (MayLearn None) (axioms_alone book (adds_both [] old book (record { axioms = question_axioms net log parts.step.steps 0; more = begun.axioms }) adds))
 
   pub diagnosed_begun : (budget : ℕ) (found : Found) → IsValidBook book → IsAnswered (meanings_of_parts later) (built_of parts old) net log later.step.steps budget old book found → IsDiagnosed net log parts.step.steps budget book found
   diagnosed_begun budget found valid answered =

@@ -1,14 +1,16 @@
 -- A question that is written into a book, before anything is asked of it, and what stays of it whatever is asked.
 use Rattle.std.specs.Prelude.{◌≡◌, ◌⊎◌, ◌≤◌, ℕ, List, [], map, count_by, Option, None, Some}
+use Rattle.answers.specs.declared.found.Found.{Found}
 use Rattle.des_base.specs.declared.TheConstants.{MOST_STEPS}
 use Rattle.des_net.specs.Network.{Net}
 use Rattle.least_faults.specs.declared.parts.Parts.{Parts}
-use Rattle.least_faults.specs.Answers.{HaveLearntFresh}
+use Rattle.least_faults.specs.Answers.{HaveLearntFresh, IsAnswered, IsOpenAtMost}
 use Rattle.least_faults.specs.Parts.{AreReady, BelongTo, IsBuilt}
 use Rattle.log_order.specs.Log.{Log}
 use Rattle.proof_ledger.specs.Book.{BookEntry, axiomatic, axioms_of, IsValidBook}
 use Rattle.proof_ledger.specs.Fresh.{is_learnt}
-use Rattle.run_decode.specs.QuestionAxioms.{question_axioms}
+use Rattle.prop_core.specs.VariableNames.{Meaning}
+use Rattle.run_decode.specs.QuestionAxioms.{question_axioms, question_built}
 
 -- The axioms of the book are those of a question about network and log, and the parts are theirs.
 pub record ArePartsOf {R : Type 0} (may : R → ℕ → Type 0) (gives : R → ℕ → ℕ → Type 0) (net : Net) (log : Log) (parts : Parts R) (book : List BookEntry) : Type 0 where
@@ -25,18 +27,18 @@ pub record HasBegun {R : Type 0} (may : R → ℕ → Type 0) (gives : R → ℕ
 
 -- ---- what is left
 
--- The axioms of the book are those of the question with some number of columns, in their order, and P holds of the book.
-pub record HasQuestion (net : Net) (log : Log) (n : ℕ) (P : List BookEntry → Type 0) (book : List BookEntry) : Type 0 where
+-- The axioms of the book are those of the question with some number of columns, in their order, and P holds of the question and the book.
+pub record HasQuestion (net : Net) (log : Log) (n : ℕ) (P : Net → Log → ℕ → List BookEntry → Type 0) (book : List BookEntry) : Type 0 where
   pub columns : ℕ
   pub axioms : axioms_of book ≡ question_axioms net log n columns
-  pub beside : P book
+  pub beside : P net log n book
 
 -- the book is empty, or P of it
 abbrev pub IsEmptyOr : (List BookEntry → Type 0) → List BookEntry → Type 0
 IsEmptyOr P book = (book ≡ []) ⊎ P book
 
 -- the book is empty, or a question stands in it so
-abbrev pub LeavesQuestion : Net → Log → ℕ → (List BookEntry → Type 0) → List BookEntry → Type 0
+abbrev pub LeavesQuestion : Net → Log → ℕ → (Net → Log → ℕ → List BookEntry → Type 0) → List BookEntry → Type 0
 LeavesQuestion net log n P = IsEmptyOr (HasQuestion net log n P)
 
 -- the book has axioms and nothing else
@@ -49,7 +51,27 @@ pub record HasLearntWithin (budget : ℕ) (book : List BookEntry) : Type 0 where
   pub fresh : HaveLearntFresh [] book
   pub valid : IsValidBook book
 
--- no more was learnt than the budget says, and without one nothing
-abbrev pub MayLearn : Option ℕ → List BookEntry → Type 0
-MayLearn None = HasAxiomsAlone
-MayLearn (Some budget) = HasLearntWithin budget
+-- the axioms of the question without columns, as they stand before anything is asked
+abbrev pub unasked_book : Net → Log → ℕ → List BookEntry
+unasked_book net log n = map axiomatic (question_axioms net log n 0)
+
+-- behind these axioms the question was asked and answered
+pub record IsAnsweredOnce (net : Net) (log : Log) (n budget : ℕ) (book : List BookEntry) : Type 0 where
+  pub meanings : List (ℕ × Meaning)
+  pub found : Found
+  pub answered : IsAnswered meanings (question_built net log n 0) net log n budget (unasked_book net log n) book found
+
+-- behind them nothing was asked, or the question is left open
+pub record IsOpenOnce (net : Net) (log : Log) (n budget : ℕ) (book : List BookEntry) : Type 0 where
+  pub meanings : List (ℕ × Meaning)
+  pub unanswered : IsOpenAtMost meanings net log n budget (unasked_book net log n) book
+
+-- The question was asked once at most: no more was learnt than the budget says, and behind the axioms stand an answer, with what shows it, or an open question, or nothing.
+pub record HasAskedWithin (budget : ℕ) (net : Net) (log : Log) (n : ℕ) (book : List BookEntry) : Type 0 where
+  pub learnt : HasLearntWithin budget book
+  pub once : IsAnsweredOnce net log n budget book ⊎ IsOpenOnce net log n budget book
+
+-- it was asked once with this budget, and without one nothing was asked
+abbrev pub MayLearn : Option ℕ → Net → Log → ℕ → List BookEntry → Type 0
+MayLearn None = λ net log n. HasAxiomsAlone
+MayLearn (Some budget) = HasAskedWithin budget

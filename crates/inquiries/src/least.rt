@@ -1,6 +1,6 @@
 // The least number of faults, as an inquiry.
 ghost use Rattle.std.specs.Prelude.{IfOk, Some};
-ghost use Rattle.inquiries.specs.Begun.{HasBegun, HasLearntWithin, HasQuestion, MayLearn};
+ghost use Rattle.inquiries.specs.Begun.{HasAskedWithin, HasBegun, HasQuestion, MayLearn};
 ghost use Rattle.inquiries.specs.Diagnosed.{IsDiagnosed};
 ghost use Rattle.inquiries.specs.Refuted.{HasEvidenceFor};
 ghost use Rattle.least_faults.specs.Growing.{KeepsQuestion};
@@ -54,7 +54,7 @@ pub fn find_least<R: Fn(u32) -> u64>(
     ensures evidence { IfOk result (HasEvidenceFor case.now.net case.now.log parts.new book.new.entries) }
     ensures kept { KeepsQuestion parts.old parts.new book.old.entries book.new.entries }
     ensures ready { AreReady R.pre R.post parts.new book.new.entries }
-    ensures left { HasQuestion case.now.net case.now.log parts.old.step.steps (HasLearntWithin budget) book.new.entries }
+    ensures left { HasQuestion case.now.net case.now.log parts.old.step.steps (HasAskedWithin budget) book.new.entries }
 {
     let found = least(alloc, &case.net, &case.log, parts, book, budget);
     book.entries();

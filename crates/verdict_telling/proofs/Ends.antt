@@ -7,7 +7,7 @@ use Rattle.des_base.proofs.Elements.{here_first, here_later, filter_from}
 use Rattle.des_base.specs.Lists.{numbers_below}
 use Rattle.des_base.specs.Outside.{Took}
 use Rattle.des_net.specs.Network.{Net, is_fault}
-use Rattle.fault_verdicts.specs.Judges.{Matter}
+use Rattle.fault_verdicts.specs.Judges.{IsEventJudged, IsLeftUnjudged, Matter}
 use Rattle.answers.specs.declared.verdict.Verdict.{Verdict}
 use Rattle.least_faults.proofs.Freshness.{fresh_none}
 use Rattle.least_faults.specs.Growing.{HasGrownWithin}
@@ -19,7 +19,7 @@ use Rattle.telling.proofs.Joining.{tells_more, tells_one}
 use Rattle.telling.specs.Telling.{EachGoes, TellsEach}
 use Rattle.telling.specs.declared.each.Broken.{Broken}
 use Rattle.telling.specs.declared.each.Broken.TheVariants.{Memory, Put}
-use Rattle.verdict_telling.specs.Replied.{AreReplied, AreFirstJudged, TellsVerdicts, is_undecided}
+use Rattle.verdict_telling.specs.Replied.{AreAskedInOrder, AreReplied, AreFirstJudged, LeavesNext, TellsVerdicts, is_undecided}
 use Rattle.verdict_telling.specs.Stages.{HasTold, IsNotTold, TellsOf, TellsOfAll}
 use Rattle.verdict_telling.specs.declared.teller.VerdictTeller.{VerdictTeller}
 
@@ -71,9 +71,49 @@ have_told {R} s t (e ∷ events) texts faults (mid, first, rest, here, later, ar
         }
 
 -- nothing is told of an event where it ran out of memory
-pub left_untold : {R T E : Type 0} (s t : VerdictTeller R) (r : Result T E) → t.judge.matter ≡ s.judge.matter → HasGrownWithin s.judge.matter.budget s.judge.book t.judge.book → OnErr r (IsNotTold s t)
-left_untold s t (Ok told) stays grown = tt
-left_untold s t (Err e) stays grown = record { stays = stays; grown = grown }
+pub left_untold : {R T E : Type 0} (s : VerdictTeller R) (event : ℕ) (t : VerdictTeller R) (r : Result T E) → t.judge.matter ≡ s.judge.matter → HasGrownWithin s.judge.matter.budget s.judge.book t.judge.book → IsLeftUnjudged s.judge.matter event s.judge.book t.judge.book → OnErr r (IsNotTold s event t)
+left_untold s event t (Ok told) stays grown unjudged = tt
+left_untold s event t (Err e) stays grown unjudged = record { stays = stays; grown = grown; unjudged = unjudged }
+
+-- a verdict that isn't told
+pub judged_untold : (m : Matter) (e : ℕ) (old new : List BookEntry) (verdict : Verdict) → IsEventJudged m e old new verdict → IsLeftUnjudged m e old new
+judged_untold m e old new verdict (inl asked) = inr (verdict, asked)
+judged_untold m e old new verdict (inr shown) = inl (inl shown.same)
+
+-- where the book stays, nothing is left for the next event
+pub leaves_none : (m : Matter) (others : List ℕ) (old new : List BookEntry) → new ≡ old → LeavesNext m others old new
+leaves_none m [] old new same = same
+leaves_none m (e ∷ others) old new same = inl (inl same)
+
+-- however it ends, fault events were asked about in order
+pub asked_in_order : (m : Matter) (old new : List BookEntry) (before now : Option (List ℕ)) (rose : Type 0) (result : Result Bool Broken) → TellsVerdicts m old new before now rose result → AreAskedInOrder m old new
+asked_in_order m old new before now rose (Ok open_left) tells = record {
+  events = fault_events m.net;
+  others = [];
+  verdicts = tells.verdicts;
+  mid = new;
+  ordered = sym (append-nil (fault_events m.net));
+  judged = tells.replied.judged;
+  next = refl;
+}
+asked_in_order m old new before now rose (Err Memory) tells = record {
+  events = tells.events;
+  others = tells.front.others;
+  verdicts = tells.verdicts;
+  mid = tells.mid;
+  ordered = tells.front.ordered;
+  judged = tells.front.replied.judged;
+  next = tells.next;
+}
+asked_in_order m old new before now rose (Err Put) tells = record {
+  events = tells.1.events;
+  others = tells.1.front.others;
+  verdicts = tells.1.verdicts;
+  mid = new;
+  ordered = tells.1.front.ordered;
+  judged = tells.1.front.replied.judged;
+  next = leaves_none m tells.1.front.others new new refl;
+}
 
 -- ---- by how it ends
 
@@ -89,7 +129,7 @@ module _ {R : Type 0} (s t : VerdictTeller R) (none_left : s.open_left ≡ false
       AreFirstJudged m s.judge.book stage.judge.book events (have_told s stage events texts (front_faults events others ordered) told).verdicts texts
   front stage events others texts ordered told = record { others = others; ordered = ordered; replied = (have_told s stage events texts (front_faults events others ordered) told).replied }
 
-  pub each_told : (r : Result (Unit {0}) Broken) → EachGoes TellsOf (λ (x : VerdictTeller R) (e : ℕ) (y : VerdictTeller R). IsNotTold x y) s (fault_events m.net) t before now rose r → TellsOfAll s t before now rose r
+  pub each_told : (r : Result (Unit {0}) Broken) → EachGoes TellsOf IsNotTold s (fault_events m.net) t before now rose r → TellsOfAll s t before now rose r
   each_told (Ok done) goes result is =
       let told = have_told s t (fault_events m.net) goes.texts (all_faults m.net) goes.says in
       subst (TellsVerdicts m s.judge.book t.judge.book before now rose) (sym is) (record {
@@ -109,6 +149,7 @@ module _ {R : Type 0} (s t : VerdictTeller R) (none_left : s.open_left ≡ false
         mid = goes.says.mid.judge.book;
         front = front goes.says.mid comes.front (goes.says.item ∷ comes.others) goes.texts comes.split comes.told;
         grown = subst (λ (x : Matter). HasGrownWithin x.budget goes.says.mid.judge.book t.judge.book) told.stays goes.says.untold.grown;
+        next = subst (λ (x : Matter). IsLeftUnjudged x goes.says.item goes.says.mid.judge.book t.judge.book) told.stays goes.says.untold.unjudged;
         put = goes.put;
       })
   each_told (Err Put) goes result is =
@@ -137,12 +178,13 @@ module _ {R : Type 0} (s t : VerdictTeller R) (none_left : s.open_left ≡ false
     mid = s.judge.book;
     front = record { others = fault_events m.net; ordered = refl; replied = record { judged = refl; are = refl } };
     grown = record { since = []; whole = ap (λ x. x.judge.book) same ∙ sym (append-nil s.judge.book); within = omega arith; fresh = fresh_none s.judge.book };
+    next = leaves_none m (fault_events m.net) s.judge.book t.judge.book (ap (λ x. x.judge.book) same);
     put = put;
   })
 
   -- of the events of a list
-  pub list_told : (events : List ℕ) (r : Result (Unit {0}) Broken) → events ≡ fault_events m.net → EachGoes TellsOf (λ (x : VerdictTeller R) (e : ℕ) (y : VerdictTeller R). IsNotTold x y) s events t before now rose r → TellsOfAll s t before now rose r
-  list_told events r is goes = each_told r (subst (λ (es : List ℕ). EachGoes TellsOf (λ (x : VerdictTeller R) (e : ℕ) (y : VerdictTeller R). IsNotTold x y) s es t before now rose r) is goes)
+  pub list_told : (events : List ℕ) (r : Result (Unit {0}) Broken) → events ≡ fault_events m.net → EachGoes TellsOf IsNotTold s events t before now rose r → TellsOfAll s t before now rose r
+  list_told events r is goes = each_told r (subst (λ (es : List ℕ). EachGoes TellsOf IsNotTold s es t before now rose r) is goes)
 
 -- ---- from the first stage
 

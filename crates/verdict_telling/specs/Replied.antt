@@ -3,7 +3,7 @@ use Rattle.std.specs.Prelude.{◌≡◌, ℕ, Bool, true, false, List, [], ◌�
 use Rattle.std.specs.List.{concat, list_any}
 use Rattle.des_base.specs.Outside.{Took}
 use Rattle.des_net.specs.Network.{Net}
-use Rattle.fault_verdicts.specs.Judges.{AreJudged, Matter}
+use Rattle.fault_verdicts.specs.Judges.{AreJudged, IsLeftUnjudged, Matter}
 use Rattle.answers.specs.declared.verdict.Verdict.{Verdict}
 use Rattle.answers.specs.declared.verdict.Verdict.TheVariants.{Certain, Excluded, Possible, Open}
 use Rattle.least_faults.specs.Growing.{HasGrownWithin}
@@ -45,6 +45,21 @@ pub record IsAllTold (m : Matter) (old new : List BookEntry) (before now : Optio
   pub left : open_left ≡ list_any is_undecided verdicts
   pub put : Took before now (concat texts)
 
+-- For the next event a question was left open at most, or answered. Where there is none, nothing was put.
+abbrev pub LeavesNext : Matter → List ℕ → List BookEntry → List BookEntry → Type 0
+LeavesNext m [] old new = new ≡ old
+LeavesNext m (e ∷ others) old new = IsLeftUnjudged m e old new
+
+-- The first of all fault events were judged one after another, and behind that stands only what the next one left.
+pub record AreAskedInOrder (m : Matter) (old new : List BookEntry) : Type 0 where
+  pub events : List ℕ
+  pub others : List ℕ
+  pub verdicts : List Verdict
+  pub mid : List BookEntry
+  pub ordered : fault_events m.net ≡ events ++ others
+  pub judged : AreJudged m events old mid verdicts
+  pub next : LeavesNext m others mid new
+
 -- It ran out of memory behind the replies on some of them, which were taken. For the next event the book has at most what its question put.
 pub record IsOutOfMemory (m : Matter) (old new : List BookEntry) (before now : Option (List ℕ)) : Type 0 where
   pub events : List ℕ
@@ -53,6 +68,7 @@ pub record IsOutOfMemory (m : Matter) (old new : List BookEntry) (before now : O
   pub mid : List BookEntry
   pub front : AreFirstJudged m old mid events verdicts texts
   pub grown : HasGrownWithin m.budget mid new
+  pub next : LeavesNext m front.others mid new
   pub put : Took before now (concat texts)
 
 -- The last reply couldn't be put whole. The events up to this one were judged, and none behind it.

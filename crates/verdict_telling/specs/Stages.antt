@@ -1,7 +1,7 @@
 -- How the verdict on each event is told, from one stage of a judge to the next.
 use Rattle.std.specs.Prelude.{◌≡◌, ◌⊎◌, ◌<◌, ◌||◌, ℕ, Bool, true, List, length, Option, None, Some, Result, Ok, Err}
 use Rattle.des_net.specs.Network.{is_fault}
-use Rattle.fault_verdicts.specs.Judges.{IsEventJudged}
+use Rattle.fault_verdicts.specs.Judges.{IsEventJudged, IsLeftUnjudged}
 use Rattle.answers.specs.declared.verdict.Verdict.{Verdict}
 use Rattle.least_faults.specs.Growing.{HasGrownWithin}
 use Rattle.report.specs.VerdictTexts.{text_of_verdict}
@@ -27,10 +27,11 @@ pub record IsPassedOver {R : Type 0} (s : VerdictTeller R) (e : ℕ) (t : Verdic
 abbrev pub TellsOf : {R : Type 0} → VerdictTeller R → ℕ → VerdictTeller R → Option (List ℕ) → Type 0
 TellsOf s e t text = IsToldOf s e t text ⊎ IsPassedOver s e t text
 
--- It ran out of memory. The same is judged, and the book has at most what a question put.
-pub record IsNotTold {R : Type 0} (s t : VerdictTeller R) : Type 0 where
+-- It ran out of memory. The same is judged, and the book has at most what a question about the event put.
+pub record IsNotTold {R : Type 0} (s : VerdictTeller R) (e : ℕ) (t : VerdictTeller R) : Type 0 where
   pub stays : t.judge.matter ≡ s.judge.matter
   pub grown : HasGrownWithin s.judge.matter.budget s.judge.book t.judge.book
+  pub unjudged : IsLeftUnjudged s.judge.matter e s.judge.book t.judge.book
 
 -- it is told whether some event was left open, where all were told
 abbrev pub HasTold : Result (Unit {0}) Broken → Bool → Result Bool Broken → Type 0

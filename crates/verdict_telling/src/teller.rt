@@ -25,7 +25,7 @@ impl<'a, R: Fn(u32) -> u64> Teller for VerdictTeller<'a, R> {
 
     ghost goes = { λ s event t text. TellsOf s event t text };
 
-    ghost undone = { λ s event t. IsNotTold s t };
+    ghost undone = { λ s event t. IsNotTold s event t };
 
     ghost ready = { λ s. AreReadyForVerdicts R.pre R.post s.judge.parts s.judge.book };
 

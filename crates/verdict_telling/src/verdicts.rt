@@ -4,7 +4,7 @@ ghost use Rattle.des_base.specs.Outside.{Rose};
 ghost use Rattle.des_base.specs.declared.TheConstants.{MOST_STEPS};
 ghost use Rattle.fault_verdicts.specs.Judged.{IsBestRun};
 ghost use Rattle.fault_verdicts.specs.Ready.{AreReadyForVerdicts};
-ghost use Rattle.inquiries.specs.Begun.{HasLearntWithin, HasQuestion};
+ghost use Rattle.inquiries.specs.Begun.{HasAskedWithin, HasQuestion};
 ghost use Rattle.least_faults.specs.Growing.{HasGrownWithin};
 ghost use Rattle.least_faults.specs.Parts.{BelongTo};
 ghost use Rattle.step_encode.specs.FaultInputs.{fault_events};
@@ -42,7 +42,7 @@ pub fn tell_verdicts<R: Fn(u32) -> u64, S: Sink>(
     requires known { IsBestRun net.now log.now parts.step.steps best.now.faults best.now.run }
     requires ready { AreReadyForVerdicts R.pre R.post parts book.old.entries }
     ensures tells { TellsVerdicts (record { net = net.now; log = log.now; steps = parts.step.steps; best = best.now; budget = budget }) book.old.entries book.new.entries (S.taken out.old) (S.taken out.new) (Rose (S.faults out.old) (S.faults out.new)) result }
-    ensures left { HasQuestion net.now log.now parts.step.steps (HasLearntWithin budget) book.old.entries → BeginsWithQuestion net.now log.now parts.step.steps budget book.new.entries }
+    ensures left { HasQuestion net.now log.now parts.step.steps (HasAskedWithin budget) book.old.entries → BeginsWithQuestion net.now log.now parts.step.steps budget book.new.entries }
     ensures never_falls { S.faults out.old ≤ S.faults out.new }
     ensures failures { RisesExactlyIf (IsErrOf result Broken.Put) (S.failures out.old) (S.failures out.new) }
 {

@@ -1,11 +1,11 @@
 // What is found of a log, and then the verdicts.
 ghost use Rattle.std.specs.Prelude.{◌≡◌, ◌≤◌, IfOk, IsErrOf};
 ghost use Rattle.des_base.specs.Outside.{Rose};
-ghost use Rattle.inquiries.specs.Begun.{HasBegun, HasLearntWithin, HasQuestion};
+ghost use Rattle.inquiries.specs.Begun.{HasAskedWithin, HasBegun, HasQuestion};
 ghost use Rattle.least_faults.specs.declared.TheConstants.{MOST_SIZE};
 ghost use Rattle.replay.specs.QuestionSize.{question_size};
 ghost use Rattle.report.specs.Replies.{EventsKnown, text_of_found};
-ghost use Rattle.verdict_telling.specs.Left.{BeginsWithQuestion, StaysReady};
+ghost use Rattle.verdict_telling.specs.Left.{BeginsWithQuestion, StandsInOrder, StaysReady};
 ghost use Rattle.verdict_telling.specs.Whole.{HasJudged, PutsFound, TellsFound, TellsWhole};
 ghost use Rattle.telling.specs.Telling.{RisesExactlyIf};
 
@@ -48,6 +48,7 @@ pub fn tell_whole<R: Fn(u32) -> u64, S: Sink>(
     requires size { question_size case.now.net case.now.log steps ≤ MOST_SIZE }
     ensures tells { TellsWhole case.now.net case.now.log steps budget book.new.entries (S.taken out.old) (S.taken out.new) (Rose (S.faults out.old) (S.faults out.new)) result }
     ensures left { BeginsWithQuestion case.now.net case.now.log steps budget book.new.entries }
+    ensures in_order { StandsInOrder case.now.net case.now.log steps budget book.new.entries }
     ensures failures { RisesExactlyIf (IsErrOf result Broken.Put) (S.failures out.old) (S.failures out.new) }
 {
     // (The parts are let go by a call: exits that do so by themselves are dear to prove.)
@@ -100,7 +101,7 @@ fn tell_found<R: Fn(u32) -> u64, S: Sink>(
     requires time { parts.old.step.steps ≡ steps }
     requires size { question_size case.now.net case.now.log steps ≤ MOST_SIZE }
     ensures stays { StaysReady R.pre R.post parts.old parts.new book.new.entries }
-    ensures left { HasQuestion case.now.net case.now.log steps (HasLearntWithin budget) book.new.entries }
+    ensures left { HasQuestion case.now.net case.now.log steps (HasAskedWithin budget) book.new.entries }
     ensures tells { TellsFound case.now.net case.now.log steps budget book.new.entries (S.taken out.old) (S.taken out.new) (Rose (S.faults out.old) (S.faults out.new)) result }
     ensures never_falls { S.faults out.old ≤ S.faults out.new }
     ensures failures { RisesExactlyIf (IsErrOf result Broken.Put) (S.failures out.old) (S.failures out.new) }

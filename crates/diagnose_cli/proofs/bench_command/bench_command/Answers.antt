@@ -2,7 +2,7 @@
 use Rattle.std.proofs.Common.{inl, subst}
 use Rattle.des_net.specs.Network.{Net}
 use Rattle.gen_plant.specs.Plant.{plant_net}
-use Rattle.inquiries.specs.Begun.{HasLearntWithin, LeavesQuestion}
+use Rattle.inquiries.specs.Begun.{HasAskedWithin, LeavesQuestion}
 use Rattle.log_order.specs.Log.{Log}
 use Rattle.diagnose_cli.proofs.bench_command.bench_command.Goals as goal
 
@@ -15,5 +15,5 @@ returns-in_err-plant-clause-left c = inl c.requires.empty
 pub returns-clause-left : goal.returns-clause-left
 returns-clause-left c =
     let plant = c.in_ok-plant.plant in
-    subst (λ (a : Log). LeavesQuestion (plant_net c.args.units) a c.args.limits.steps (HasLearntWithin c.args.limits.budget) c.bench-answer.new.book.entries) c.in_ok-plant.ensures.log
-    (subst (λ (n : Net). LeavesQuestion n plant.log c.args.limits.steps (HasLearntWithin c.args.limits.budget) c.bench-answer.new.book.entries) c.in_ok-plant.ensures.net c.bench-answer.ensures.left)
+    subst (λ (a : Log). LeavesQuestion (plant_net c.args.units) a c.args.limits.steps (HasAskedWithin c.args.limits.budget) c.bench-answer.new.book.entries) c.in_ok-plant.ensures.log
+    (subst (λ (n : Net). LeavesQuestion n plant.log c.args.limits.steps (HasAskedWithin c.args.limits.budget) c.bench-answer.new.book.entries) c.in_ok-plant.ensures.net c.bench-answer.ensures.left)

@@ -34,4 +34,4 @@ returns-clause-evidence g c =
 
 pub returns-clause-left : goal.returns-clause-left
 returns-clause-left g c =
-    search_left (goal.R-pre g) (goal.R-post g) c.args.case.now.net c.args.case.now.log c.args.parts.now c.least-found.new.parts c.args.book.now.entries c.least-found.new.book.entries c.requires.begun c.least-found.ensures.kept c.args.budget c.least-found.ensures.grown c.entries.ensures.valid
+    search_left (goal.R-pre g) (goal.R-post g) c.args.case.now.net c.args.case.now.log c.args.parts.now c.least-found.new.parts c.args.book.now.entries c.least-found.new.book.entries c.requires.begun c.least-found.ensures.kept c.args.budget c.least-found.result c.least-found.ensures.grown c.least-found.ensures.answered c.least-found.ensures.unanswered c.entries.ensures.valid

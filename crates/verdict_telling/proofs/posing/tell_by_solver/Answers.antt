@@ -7,7 +7,7 @@ pub returns-in-Err-clause-tells : goal.returns-in-Err-clause-tells
 returns-in-Err-clause-tells g c = inl (nothing_taken _)
 
 pub returns-in-Ok-clause-left : goal.returns-in-Ok-clause-left
-returns-in-Ok-clause-left g c = inr c.tell_whole.ensures.left
+returns-in-Ok-clause-left g c = inr (c.tell_whole.ensures.left, c.tell_whole.ensures.in_order)
 
 pub returns-in-Err-clause-left : goal.returns-in-Err-clause-left
 returns-in-Err-clause-left g c = inl (ap (λ (b : _). b.entries) c.new.ensures)

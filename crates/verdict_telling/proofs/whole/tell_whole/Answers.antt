@@ -6,7 +6,7 @@ use Rattle.step_encode.specs.Coded.{CodedSteps}
 use Rattle.telling.proofs.Taking.{rose_later}
 use Rattle.verdict_telling.proofs.Both.{broken_first, found_best, judged_behind, said_alone}
 use Rattle.verdict_telling.proofs.Failures.{all_said, ends_alike, judged_fails}
-use Rattle.verdict_telling.proofs.Leaving.{behind_found, left_alone}
+use Rattle.verdict_telling.proofs.Leaving.{behind_found, in_order_alone, in_order_behind, left_alone}
 use Rattle.verdict_telling.specs.declared.whole.Told.TheVariants.{NotDecided, NotExplained, TooMany}
 use Rattle.verdict_telling.proofs.whole.tell_whole.Goals as goal
 
@@ -69,3 +69,21 @@ returns-in-Ok-Undecided-clause-left g c = left_alone c.args.case.now.net c.args.
 
 pub returns-clause-left : goal.returns-clause-left
 returns-clause-left g c = left_alone c.args.case.now.net c.args.case.now.log c.args.steps c.args.budget c.tell_found.new.book.entries c.tell_found.ensures.left
+
+pub returns-in-Ok-Explained-clause-in_order : goal.returns-in-Ok-Explained-clause-in_order
+returns-in-Ok-Explained-clause-in_order g c =
+    let tells = rw c.in-Ok-Explained.field-0-is at c.in-Ok-Explained.ensures.tells in
+    in_order_behind c.args.case.now.net c.args.case.now.log c.args.steps c.tell_found.new.parts.step.steps c.args.budget c.in-Ok-Explained.best c.tell_found.new.book.entries c.tell_verdicts-told.new.book.entries _ _ _ c.tell_verdicts-told.result
+    (ap (λ (s : CodedSteps). s.steps) c.tell_found.ensures.stays.step ∙ c.requires.time) c.tell_found.ensures.left tells.0 c.tell_verdicts-told.ensures.tells
+
+pub returns-in-Ok-Absent-clause-in_order : goal.returns-in-Ok-Absent-clause-in_order
+returns-in-Ok-Absent-clause-in_order g c = in_order_alone c.args.case.now.net c.args.case.now.log c.args.steps c.args.budget c.tell_found.new.book.entries c.tell_found.ensures.left
+
+pub returns-in-Ok-Many-clause-in_order : goal.returns-in-Ok-Many-clause-in_order
+returns-in-Ok-Many-clause-in_order g c = in_order_alone c.args.case.now.net c.args.case.now.log c.args.steps c.args.budget c.tell_found.new.book.entries c.tell_found.ensures.left
+
+pub returns-in-Ok-Undecided-clause-in_order : goal.returns-in-Ok-Undecided-clause-in_order
+returns-in-Ok-Undecided-clause-in_order g c = in_order_alone c.args.case.now.net c.args.case.now.log c.args.steps c.args.budget c.tell_found.new.book.entries c.tell_found.ensures.left
+
+pub returns-clause-in_order : goal.returns-clause-in_order
+returns-clause-in_order g c = in_order_alone c.args.case.now.net c.args.case.now.log c.args.steps c.args.budget c.tell_found.new.book.entries c.tell_found.ensures.left

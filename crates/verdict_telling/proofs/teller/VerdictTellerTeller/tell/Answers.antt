@@ -1,8 +1,9 @@
 -- By the verdict on the event.
 use Rattle.std.proofs.Common.{◌∙◌, inl, Some, ap, subst, sym}
+use Rattle.des_base.proofs.Results.{on_err}
 use Rattle.des_net.specs.Network.{Net}
 use Rattle.report.specs.VerdictTexts.{RunKnown, text_of_verdict}
-use Rattle.verdict_telling.proofs.Ends.{left_untold}
+use Rattle.verdict_telling.proofs.Ends.{judged_untold, left_untold}
 use Rattle.verdict_telling.proofs.Runs.{shown_known}
 use Rattle.verdict_telling.proofs.teller.VerdictTellerTeller.tell.Goals as goal
 
@@ -21,4 +22,8 @@ returns-clause-told g c = inl (record {
 })
 
 pub returns-in_err-text-clause-undone : goal.returns-in_err-text-clause-undone
-returns-in_err-text-clause-undone g c = left_untold c.args.self.now _ c.from_residual-in_err-text.result c.judge.ensures.kept.matter c.judge.ensures.grown
+returns-in_err-text-clause-undone g c = left_untold c.args.self.now c.args.item.now _ c.from_residual-in_err-text.result c.judge.ensures.kept.matter c.judge.ensures.grown
+    (judged_untold c.args.self.now.judge.matter c.args.item.now c.args.self.now.judge.book c.judge.new.self.book c.in_ok-verdict.verdict c.in_ok-verdict.ensures.judged)
+
+pub returns-in_err-verdict-clause-undone : goal.returns-in_err-verdict-clause-undone
+returns-in_err-verdict-clause-undone g c = on_err _ _ (record { stays = c.judge.ensures.kept.matter; grown = c.judge.ensures.grown; unjudged = c.in_err-verdict.ensures.unjudged })
