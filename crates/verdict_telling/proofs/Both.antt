@@ -29,8 +29,8 @@ use Rattle.telling.proofs.Taking.{cut_first, took_cut, took_texts}
 use Rattle.telling.specs.declared.each.Broken.{Broken}
 use Rattle.telling.specs.declared.each.Broken.TheVariants.{Memory, Put}
 use Rattle.verdict_telling.specs.Left.{StaysReady}
-use Rattle.verdict_telling.specs.Replied.{TellsVerdicts}
-use Rattle.verdict_telling.specs.Whole.{FollowsFound, HasJudged, HaveReplies, PutsFound, TellsFound, TellsWhole, matter_behind, told_of, events_behind}
+use Rattle.verdict_telling.specs.Replied.{TellsVerdicts, matter_behind}
+use Rattle.verdict_telling.specs.Whole.{FollowsFound, HasJudged, HaveReplies, PutsFound, TellsFound, TellsWhole, told_of, events_behind}
 use Rattle.verdict_telling.specs.declared.whole.Told.{Told}
 use Rattle.verdict_telling.specs.declared.whole.Told.TheVariants.{Judged}
 

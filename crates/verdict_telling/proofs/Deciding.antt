@@ -10,8 +10,7 @@ use Rattle.proof_ledger.specs.Book.{BookEntry, mark}
 use Rattle.proof_ledger.specs.Fresh.{AreFresh}
 use Rattle.verdict_telling.proofs.Growing.{judged_grows}
 use Rattle.verdict_telling.specs.Deciding.{IncludeVariablesOf, OpenIsSmall}
-use Rattle.verdict_telling.specs.Replied.{is_undecided}
-use Rattle.verdict_telling.specs.Whole.{matter_behind}
+use Rattle.verdict_telling.specs.Replied.{is_undecided, matter_behind}
 
 -- ---- fronts of the book
 

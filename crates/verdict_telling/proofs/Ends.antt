@@ -130,6 +130,7 @@ module _ {R : Type 0} (s t : VerdictTeller R) (none_left : s.open_left ≡ false
   front stage events others texts ordered told = record { others = others; ordered = ordered; replied = (have_told s stage events texts (front_faults events others ordered) told).replied }
 
   pub each_told : (r : Result (Unit {0}) Broken) → EachGoes TellsOf IsNotTold s (fault_events m.net) t before now rose r → TellsOfAll s t before now rose r
+  unfolding front
   each_told (Ok done) goes result is =
       let told = have_told s t (fault_events m.net) goes.texts (all_faults m.net) goes.says in
       subst (TellsVerdicts m s.judge.book t.judge.book before now rose) (sym is) (record {

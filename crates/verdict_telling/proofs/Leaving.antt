@@ -22,8 +22,7 @@ use Rattle.step_encode.specs.FaultInputs.{fault_events}
 use Rattle.telling.specs.declared.each.Broken.{Broken}
 use Rattle.verdict_telling.proofs.Ends.{asked_in_order}
 use Rattle.verdict_telling.specs.Left.{BeginsWithQuestion, StandsInOrder}
-use Rattle.verdict_telling.specs.Replied.{TellsVerdicts}
-use Rattle.verdict_telling.specs.Whole.{matter_behind}
+use Rattle.verdict_telling.specs.Replied.{TellsVerdicts, matter_behind}
 
 module _ (net : Net) (log : Log) (n budget : ℕ) (first book : List BookEntry) (question : HasQuestion net log n (HasAskedWithin budget) first) where
   -- behind the question fault events were asked about

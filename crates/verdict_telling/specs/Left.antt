@@ -11,8 +11,7 @@ use Rattle.least_faults.specs.declared.parts.Parts.{Parts}
 use Rattle.log_order.specs.Log.{Log}
 use Rattle.proof_ledger.specs.Book.{BookEntry, axioms_of}
 use Rattle.step_encode.specs.FaultInputs.{fault_events}
-use Rattle.verdict_telling.specs.Replied.{AreAskedInOrder}
-use Rattle.verdict_telling.specs.Whole.{matter_behind}
+use Rattle.verdict_telling.specs.Replied.{AreAskedInOrder, matter_behind}
 
 -- The codes of steps and log are the same, and parts and book are ready for verdicts.
 pub record StaysReady {R : Type 0} (may : R → ℕ → Type 0) (gives : R → ℕ → ℕ → Type 0) (old new : Parts R) (book : List BookEntry) : Type 0 where

@@ -4,15 +4,21 @@ use Rattle.std.specs.List.{concat, list_any}
 use Rattle.des_base.specs.Outside.{Took}
 use Rattle.des_net.specs.Network.{Net}
 use Rattle.fault_verdicts.specs.Judges.{AreJudged, IsLeftUnjudged, Matter}
+use Rattle.answers.specs.declared.found.Best.{Best}
 use Rattle.answers.specs.declared.verdict.Verdict.{Verdict}
 use Rattle.answers.specs.declared.verdict.Verdict.TheVariants.{Certain, Excluded, Possible, Open}
 use Rattle.least_faults.specs.Growing.{HasGrownWithin}
+use Rattle.log_order.specs.Log.{Log}
 use Rattle.proof_ledger.specs.Book.{BookEntry}
 use Rattle.report.specs.VerdictTexts.{text_of_verdict}
 use Rattle.step_encode.specs.FaultInputs.{fault_events}
 use Rattle.telling.specs.Telling.{TookCut}
 use Rattle.telling.specs.declared.each.Broken.{Broken}
 use Rattle.telling.specs.declared.each.Broken.TheVariants.{Memory, Put}
+
+-- what is judged behind a least number of faults
+abbrev pub matter_behind : Net → Log → ℕ → ℕ → Best → Matter
+matter_behind net log n budget best = record { net = net; log = log; steps = n; best = best; budget = budget }
 
 -- the question about the event came to no answer
 abbrev pub is_undecided : Verdict → Bool

@@ -3,11 +3,9 @@ use Rattle.std.specs.Prelude.{◌≡◌, ◌⊎◌, ℕ, Bool, List, [], ◌∷�
 use Rattle.std.specs.List.{concat, list_any}
 use Rattle.des_base.specs.Outside.{Took, TookFront}
 use Rattle.des_net.specs.Network.{Net}
-use Rattle.fault_verdicts.specs.Judges.{Matter}
 use Rattle.answers.specs.declared.verdict.Verdict.{Verdict}
 use Rattle.inquiries.specs.Diagnosed.{IsDiagnosed}
 use Rattle.least_faults.specs.Growing.{HasGrownWithin}
-use Rattle.answers.specs.declared.found.Best.{Best}
 use Rattle.answers.specs.declared.found.Found.{Found}
 use Rattle.answers.specs.declared.found.Found.TheVariants.{Explained, Absent, Many, Undecided}
 use Rattle.log_order.specs.Log.{Log}
@@ -18,15 +16,11 @@ use Rattle.telling.specs.Telling.{RisesExactlyIf, TookCut}
 use Rattle.telling.specs.declared.each.Broken.{Broken}
 use Rattle.telling.specs.declared.each.Broken.TheVariants.{Memory, Put}
 use Rattle.verdict_telling.specs.Left.{LeavesVerdicts}
-use Rattle.verdict_telling.specs.Replied.{AreFirstJudged, is_undecided}
+use Rattle.verdict_telling.specs.Replied.{AreFirstJudged, is_undecided, matter_behind}
 use Rattle.verdict_telling.specs.declared.whole.Told.{Told}
 use Rattle.verdict_telling.specs.declared.whole.Told.TheVariants.{Judged, NotExplained, TooMany, NotDecided}
 
 -- ---- what was found
-
--- what is judged behind a least number of faults
-abbrev pub matter_behind : Net → Log → ℕ → ℕ → Best → Matter
-matter_behind net log n budget best = record { net = net; log = log; steps = n; best = best; budget = budget }
 
 -- It was found with the book that shows it, and the reply was taken. Or it ran out of memory before, and nothing was taken; or a front alone of the reply was. Here rose says that the sink's count of faults rose.
 abbrev pub TellsFound : Net → Log → ℕ → ℕ → List BookEntry → Option (List ℕ) → Option (List ℕ) → Type 0 → Result Found Broken → Type 0

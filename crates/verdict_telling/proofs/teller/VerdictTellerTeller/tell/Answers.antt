@@ -1,6 +1,5 @@
 -- By the verdict on the event.
 use Rattle.std.proofs.Common.{◌∙◌, inl, Some, ap, subst, sym}
-use Rattle.des_base.proofs.Results.{on_err}
 use Rattle.des_net.specs.Network.{Net}
 use Rattle.report.specs.VerdictTexts.{RunKnown, text_of_verdict}
 use Rattle.verdict_telling.proofs.Ends.{judged_untold, left_untold}
@@ -26,4 +25,4 @@ returns-in_err-text-clause-undone g c = left_untold c.args.self.now c.args.item.
     (judged_untold c.args.self.now.judge.matter c.args.item.now c.args.self.now.judge.book c.judge.new.self.book c.in_ok-verdict.verdict c.in_ok-verdict.ensures.judged)
 
 pub returns-in_err-verdict-clause-undone : goal.returns-in_err-verdict-clause-undone
-returns-in_err-verdict-clause-undone g c = on_err _ _ (record { stays = c.judge.ensures.kept.matter; grown = c.judge.ensures.grown; unjudged = c.in_err-verdict.ensures.unjudged })
+returns-in_err-verdict-clause-undone g c = left_untold c.args.self.now c.args.item.now _ c.from_residual.result c.judge.ensures.kept.matter c.judge.ensures.grown c.in_err-verdict.ensures.unjudged
