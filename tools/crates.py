@@ -1,4 +1,3 @@
-#!/usr/bin/env python3
 """Draws crates.txt, at the top of the repository.
 
     python3 tools/crates.py                 each crate by its room and level, with what it has and what it stands on directly
