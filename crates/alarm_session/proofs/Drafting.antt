@@ -1,7 +1,9 @@
 -- Additions that are drafted for what a session keeps: their sizes, and that there is room for their variables.
 use Rattle.std.proofs.Common.{◌≡◌, ◌∙◌, ℕ, ◌+◌, ◌<◌, ◌≤◌, Bool, false, List, [], ◌∷◌, length, sym, ap, subst, arith, length-append}
 use Rattle.alarm_session.proofs.Keeping.{Codes, alarm_codes, draft_fits, log_fits, pair_codes, paired, paired_is}
+use Rattle.alarm_session.specs.Additions.{alarm_addition}
 use Rattle.alarm_session.specs.Session.{IsDraftedFor, IsFor}
+use Rattle.alarm_session.specs.declared.kept.Drafted.{Drafted}
 use Rattle.alarm_session.specs.declared.kept.Kept.{Kept}
 use Rattle.des_base.specs.declared.TheConstants.{VAR_LIMIT}
 use Rattle.des_net.specs.Building.{IsDraft}
@@ -72,3 +74,10 @@ module _ {R : Type 0} (net : Net) (n : ℕ) (kept : Kept R) (of_log : IsFor net 
         IsDraftedFor net n kept (pair_added first second) (paired kept.log first second) (record { draft = draft; size = size })
     pair_drafted few small draft is =
         addition_drafted (pair_added first second) (paired kept.log first second) (pair_codes kept.log kept.parts.code.coded.log first second new of_log.belong.same_log) few size pair_sized small draft is
+
+-- ---- an alarm that is said to be as doubtful as it is
+
+pub drafted_alike : {R : Type 0} (net : Net) (n : ℕ) (kept : Kept R) (name : List ℕ) (labels : List (List ℕ)) (drafted : Drafted) (d e : Bool) → d ≡ e →
+    IsDraftedFor net n kept (alarm_addition labels d) (with_alarm kept.log name labels d) drafted → IsDraftedFor net n kept (alarm_addition labels e) (with_alarm kept.log name labels e) drafted
+drafted_alike net n kept name labels drafted d e same is =
+    subst (λ (doubtful : Bool). IsDraftedFor net n kept (alarm_addition labels doubtful) (with_alarm kept.log name labels doubtful) drafted) same is

@@ -7,7 +7,8 @@ ghost use Rattle.alarm_session.specs.Session.{Becomes, IsDraftedFor, IsFor, IsRa
 ghost use Rattle.least_faults.specs.Parts.{AreParts};
 ghost use Rattle.least_faults.specs.declared.TheConstants.{MOST_SIZE};
 ghost use Rattle.log_clauses.specs.Additions.{pair_added};
-ghost use Rattle.log_order.specs.Adding.{alarm_refusal, with_alarm};
+ghost use Rattle.log_order.specs.Adding.{with_alarm};
+ghost use Rattle.log_order.specs.Certainty.{leaves_doubt};
 ghost use Rattle.log_order.specs.Log.{has_pair};
 ghost use Rattle.proof_ledger.specs.Book.{axioms_of};
 ghost use Rattle.replay.specs.QuestionSize.{question_size};
@@ -17,24 +18,25 @@ use crate::refusal::{SessionRefusal, refusal_of};
 use crate::size::{size_with_alarm, size_with_pair};
 use des_base::Name;
 use least_faults::{MOST_SIZE, add_draft, reserve_draft};
-use log_order::{AlarmLog, LogRefusal, each_once};
+use log_order::{AlarmLog, Certainty, each_once};
 
 // Adds an alarm, certain or doubtful, to the log and to the parts and the book of its question: to all or to none.
 pub fn put_alarm<R: Fn(u32) -> u64>(
     setting: Setting<'_>,
     id: Name,
     labels: &[Name],
-    doubtful: bool,
+    certainty: Certainty,
     kept: &mut Kept<R>,
 ) -> Result<u32, SessionRefusal>
     requires kept { IsRankedKept R.pre R.post setting.net.now setting.steps kept.old }
     ensures kept { IsRankedKept R.pre R.post setting.entry.net.now setting.entry.steps kept.new }
     ensures rank { kept.new.parts.solver.order.rank ≡ kept.old.parts.solver.order.rank }
-    ensures refused { SucceedsUnless (refusal_of_alarm setting.entry.net.now setting.entry.steps kept.old.log id labels.now doubtful) SessionRefusal.Memory result }
+    ensures refused { SucceedsUnless (refusal_of_alarm setting.entry.net.now setting.entry.steps kept.old.log id labels.now (leaves_doubt certainty)) SessionRefusal.Memory result }
     ensures number { IfOk result (λ alarm. alarm ≡ length kept.old.log.alarms) }
-    ensures added { OnOk result (Becomes setting.entry.net.now setting.entry.steps (with_alarm kept.old.log id labels.now doubtful) (Some (alarm_addition labels.now doubtful)) (stage_of kept.old) (stage_of kept.new)) }
+    ensures added { OnOk result (Becomes setting.entry.net.now setting.entry.steps (with_alarm kept.old.log id labels.now (leaves_doubt certainty)) (Some (alarm_addition labels.now (leaves_doubt certainty))) (stage_of kept.old) (stage_of kept.new)) }
     ensures same { OnErr result (stage_of kept.new ≡ stage_of kept.old) }
 {
+    let doubtful = certainty.is_doubtful();
     let drafted = draft_alarm(setting, &id, labels, doubtful, kept)?;
     let reserved = reserve_draft(
         setting.alloc,
@@ -43,7 +45,7 @@ pub fn put_alarm<R: Fn(u32) -> u64>(
         &mut kept.parts,
         &mut kept.book,
     )?;
-    match add_to_log(&mut kept.log, id, labels, doubtful) {
+    match kept.log.add(id, labels, certainty) {
         Ok(alarm) => {
             kept.size = drafted.size;
             add_draft(reserved, &mut kept.parts, &mut kept.book);
@@ -82,25 +84,6 @@ fn draft_alarm<R: Fn(u32) -> u64>(
         .code
         .draft_alarm(setting.net, labels, doubtful, kept.parts.vars.count())?;
     Ok(Drafted { draft, size })
-}
-
-// Adds an alarm to the log.
-fn add_to_log(
-    log: &mut AlarmLog,
-    id: Name,
-    labels: &[Name],
-    doubtful: bool,
-) -> Result<u32, LogRefusal>
-    ensures refused { SucceedsUnless (alarm_refusal log.old id labels.now) LogRefusal.Memory result }
-    ensures ok { OnOk result (log.new ≡ with_alarm log.old id labels.now doubtful) }
-    ensures place { IfOk result (λ alarm. alarm ≡ length log.old.alarms) }
-    ensures err { OnErr result (log.new ≡ log.old) }
-{
-    if doubtful {
-        log.add_maybe(id, labels)
-    } else {
-        log.add_alarm(id, labels)
-    }
 }
 
 // Adds a pair of alarms by their ids.

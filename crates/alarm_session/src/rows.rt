@@ -12,6 +12,7 @@ use crate::whole::is_session_book;
 use des_base::Memory;
 use least_faults::Found;
 use log_csv::Row;
+use log_order::Certainty;
 
 /// What a row of a script tells.
 #[derive(Drop)]
@@ -67,11 +68,11 @@ fn put_row<R: Fn(u32) -> u64>(
 {
     match row {
         Row::Alarm { id, labels } => {
-            put_alarm(setting, id.copy()?, labels.as_slice(), false, kept)?;
+            put_alarm(setting, id.copy()?, labels.as_slice(), Certainty::Certain, kept)?;
             Ok(())
         }
         Row::Maybe { id, labels } => {
-            put_alarm(setting, id.copy()?, labels.as_slice(), true, kept)?;
+            put_alarm(setting, id.copy()?, labels.as_slice(), Certainty::Doubtful, kept)?;
             Ok(())
         }
         Row::Before { first, second } => {

@@ -23,7 +23,7 @@ use des_net::Network;
 use indep::Indep;
 use least_faults::Found;
 use log_csv::Row;
-use log_order::AlarmLog;
+use log_order::{AlarmLog, Certainty};
 use proof_ledger::Ledger;
 use sat_order::Order;
 use std::alloc::Global;
@@ -90,7 +90,7 @@ impl<'a, R: Fn(u32) -> u64> Session<'a, R> {
         ensures added { OnOk result (Becomes self.old.net self.old.steps (with_alarm self.old.stage.log id labels.now false) (Some (alarm_addition labels.now false)) self.old.stage self.new.stage) }
         ensures same { OnErr result (self.new.stage ≡ self.old.stage) }
     {
-        put_alarm(self.setting, id, labels, false, &mut self.kept)
+        put_alarm(self.setting, id, labels, Certainty::Certain, &mut self.kept)
     }
 
     /// Adds an alarm that is perhaps false, and answers its number. A refusal leaves log, book and answers as they were.
@@ -103,7 +103,13 @@ impl<'a, R: Fn(u32) -> u64> Session<'a, R> {
         ensures added { OnOk result (Becomes self.old.net self.old.steps (with_alarm self.old.stage.log id labels.now true) (Some (alarm_addition labels.now true)) self.old.stage self.new.stage) }
         ensures same { OnErr result (self.new.stage ≡ self.old.stage) }
     {
-        put_alarm(self.setting, id, labels, true, &mut self.kept)
+        put_alarm(
+            self.setting,
+            id,
+            labels,
+            Certainty::Doubtful,
+            &mut self.kept,
+        )
     }
 
     /// Adds a pair of alarms, "the first before the second": true where it is new. A pair that is there already changes

@@ -1,8 +1,10 @@
 -- What a record of a log or a script says.
-use Rattle.std.specs.Prelude.{ℕ, Bool, true, false, ◌==◌, List, [], ◌∷◌, map, length, Option, Some, None, bytes_eq, codes, if◌then◌else◌}
+use Rattle.std.specs.Prelude.{ℕ, Bool, ◌==◌, List, [], ◌∷◌, map, length, Option, Some, None, bytes_eq, codes, if◌then◌else◌}
 use Rattle.std.specs.List.{list_all, slice_split}
 use Rattle.std.specs.Option.{option_map_or}
 use Rattle.csv.specs.Reading.{default_config, records, strip_bom}
+use Rattle.log_order.specs.Certainty.{leaves_doubt}
+use Rattle.log_order.specs.declared.certainty.Certainty.TheVariants.{Certain, Doubtful}
 use Rattle.log_csv.specs.declared.keyword.Keyword.{Keyword}
 use Rattle.log_csv.specs.declared.keyword.Keyword.TheVariants as word
 
@@ -48,8 +50,8 @@ ask_record fields = if are_empty fields then ask else malformed
 -- the word that begins a record
 abbrev pub record_keyword : List ℕ → Option Keyword
 record_keyword text =
-    if bytes_eq text (codes "alarm") then Some word.Alarm
-    else if bytes_eq text (codes "maybe") then Some word.Maybe
+    if bytes_eq text (codes "alarm") then Some (word.Alarm Certain)
+    else if bytes_eq text (codes "maybe") then Some (word.Alarm Doubtful)
     else if bytes_eq text (codes "before") then Some word.Before
     else if bytes_eq text (codes "ask") then Some word.Ask
     else None
@@ -57,8 +59,7 @@ record_keyword text =
 -- what the fields behind a keyword say; without a keyword they have no shape
 abbrev pub record_with : Option Keyword → List (List ℕ) → Record
 record_with None fields = malformed
-record_with (Some word.Alarm) fields = alarm_record false fields
-record_with (Some word.Maybe) fields = alarm_record true fields
+record_with (Some (word.Alarm certainty)) fields = alarm_record (leaves_doubt certainty) fields
 record_with (Some word.Before) fields = before_record fields
 record_with (Some word.Ask) fields = ask_record fields
 

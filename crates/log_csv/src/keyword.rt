@@ -2,11 +2,12 @@
 ghost use Rattle.std.specs.Prelude.{◌≡◌, bytes_eq};
 ghost use Rattle.log_csv.specs.Records.{record_keyword};
 
+use log_order::Certainty;
+
 // The first field of a record.
 #[derive(Clone, Copy)]
 pub enum Keyword {
-    Alarm,
-    Maybe,
+    Alarm(Certainty),
     Before,
     Ask,
 }
@@ -16,9 +17,9 @@ pub fn record_keyword(text: &[u8]) -> Option<Keyword>
     ensures { result ≡ record_keyword text.now }
 {
     if is_word(text, "alarm") {
-        Some(Keyword::Alarm)
+        Some(Keyword::Alarm(Certainty::Certain))
     } else if is_word(text, "maybe") {
-        Some(Keyword::Maybe)
+        Some(Keyword::Alarm(Certainty::Doubtful))
     } else if is_word(text, "before") {
         Some(Keyword::Before)
     } else if is_word(text, "ask") {

@@ -1,9 +1,8 @@
 // A log is read record by record.
-ghost use Rattle.std.specs.Prelude.{◌≡◌, ◌^◌, ◌<◌, List, None, Some, length, IfErr, IfOk, OnErr, OnOk};
-ghost use Rattle.des_base.specs.Refusing.{SucceedsUnless};
+ghost use Rattle.std.specs.Prelude.{◌≡◌, ◌^◌, ◌<◌, List, None, Some, length, IfErr, IfOk, OnOk};
 ghost use Rattle.csv.specs.Records.{fields_of};
 ghost use Rattle.log_order.specs.Log.{no_log};
-ghost use Rattle.log_order.specs.Adding.{alarm_refusal, with_alarm};
+ghost use Rattle.log_order.specs.Certainty.{leaves_doubt};
 ghost use Rattle.log_csv.specs.Records.{Record, alarm, before, record_of};
 ghost use Rattle.log_csv.specs.Faults.{IsLogDue};
 ghost use Rattle.log_csv.specs.ScriptText.{row_code, row_of};
@@ -16,7 +15,7 @@ use crate::row::Row;
 use crate::row_reader::read_record;
 use csv::ByteRecord;
 use des_base::Name;
-use log_order::{AlarmLog, LogRefusal};
+use log_order::{AlarmLog, Certainty, LogRefusal};
 use std::alloc::Global;
 
 /// The log that the text says.
@@ -82,8 +81,14 @@ fn add_row(log: &mut AlarmLog, row: u32, said: Row) -> Result<(), LogReadRefusal
     ensures { (earlier : List Record) (of : Record) → IsLogOf earlier log.old → row_code of ≡ None → row_of of ≡ Some said → Adds earlier of row log.new result }
 {
     match said {
-        Row::Alarm { id, labels } => add_alarm(log, row, false, id, labels.as_slice()),
-        Row::Maybe { id, labels } => add_alarm(log, row, true, id, labels.as_slice()),
+        Row::Alarm { id, labels } => add_alarm(log, row, Certainty::Certain, id, labels.as_slice()),
+        Row::Maybe { id, labels } => add_alarm(
+            log,
+            row,
+            Certainty::Doubtful,
+            id,
+            labels.as_slice(),
+        ),
         Row::Before { first, second } => add_pair(log, row, &first, &second),
         Row::Ask => Err(LogReadRefusal::Fault(LogFault { row, code: 6 })),
     }
@@ -92,28 +97,15 @@ fn add_row(log: &mut AlarmLog, row: u32, said: Row) -> Result<(), LogReadRefusal
 fn add_alarm(
     log: &mut AlarmLog,
     row: u32,
-    maybe: bool,
+    certainty: Certainty,
     id: Name,
     labels: &[Name],
 ) -> Result<(), LogReadRefusal>
-    ensures { (earlier : List Record) → IsLogOf earlier log.old → row_code (alarm maybe id labels.now) ≡ None → Adds earlier (alarm maybe id labels.now) row log.new result }
+    ensures { (earlier : List Record) → IsLogOf earlier log.old → row_code (alarm (leaves_doubt certainty) id labels.now) ≡ None → Adds earlier (alarm (leaves_doubt certainty) id labels.now) row log.new result }
 {
-    match put_alarm(log, maybe, id, labels) {
+    match log.add(id, labels, certainty) {
         Ok(_number) => Ok(()),
         Err(refusal) => Err(refusal_at(row, refusal)),
-    }
-}
-
-// Adds an alarm, certain or doubtful.
-fn put_alarm(log: &mut AlarmLog, maybe: bool, id: Name, labels: &[Name]) -> Result<u32, LogRefusal>
-    ensures refused { SucceedsUnless (alarm_refusal log.old id labels.now) LogRefusal.Memory result }
-    ensures ok { OnOk result (log.new ≡ with_alarm log.old id labels.now maybe) }
-    ensures err { OnErr result (log.new ≡ log.old) }
-{
-    if maybe {
-        log.add_maybe(id, labels)
-    } else {
-        log.add_alarm(id, labels)
     }
 }
 

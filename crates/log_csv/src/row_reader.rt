@@ -1,6 +1,7 @@
 // The row that a record says.
 ghost use Rattle.std.specs.Prelude.{◌≡◌, drop};
 ghost use Rattle.csv.specs.Records.{fields_of};
+ghost use Rattle.log_order.specs.Certainty.{leaves_doubt};
 ghost use Rattle.log_csv.specs.Records.{alarm_record, before_record, ask_record, record_by_word, record_of};
 ghost use Rattle.log_csv.specs.Reading.{Reads, ReadsRecord};
 ghost use Rattle.log_csv.specs.ScriptText.{alarm_row};
@@ -12,6 +13,7 @@ use crate::refusal::RowRefusal;
 use crate::row::Row;
 use csv::ByteRecord;
 use des_base::{ListOf, Name};
+use log_order::Certainty;
 use std::alloc::Global;
 
 // The row that a record says, where one of its fields isn't empty.
@@ -32,8 +34,7 @@ fn read_row(alloc: Global, fields: &ByteRecord) -> Result<Row, RowRefusal>
     ensures { Reads (record_by_word (fields_of fields.now)) result }
 {
     match keyword(fields) {
-        Some(Keyword::Alarm) => read_alarm(alloc, fields, false),
-        Some(Keyword::Maybe) => read_alarm(alloc, fields, true),
+        Some(Keyword::Alarm(certainty)) => read_alarm(alloc, fields, certainty),
         Some(Keyword::Before) => read_before(alloc, fields),
         Some(Keyword::Ask) => read_ask(fields),
         None => Err(RowRefusal::Shape),
@@ -41,25 +42,24 @@ fn read_row(alloc: Global, fields: &ByteRecord) -> Result<Row, RowRefusal>
 }
 
 #[tactic(auto, using(crate::proofs::RowLemmas::alarm_records))]
-fn read_alarm(alloc: Global, fields: &ByteRecord, maybe: bool) -> Result<Row, RowRefusal>
-    ensures { Reads (alarm_record maybe (drop 1 (fields_of fields.now))) result }
+fn read_alarm(alloc: Global, fields: &ByteRecord, certainty: Certainty) -> Result<Row, RowRefusal>
+    ensures { Reads (alarm_record (leaves_doubt certainty) (drop 1 (fields_of fields.now))) result }
 {
     let Some((id, labels)) = two_fields(fields) else {
         return Err(RowRefusal::Shape);
     };
     let id = name_of(alloc, id)?;
     let labels = read_labels(alloc, labels)?;
-    Ok(alarm_row(maybe, id, labels))
+    Ok(alarm_row(certainty, id, labels))
 }
 
 // The row of an alarm, certain or doubtful.
-fn alarm_row(maybe: bool, id: Name, labels: ListOf<Name>) -> Row
-    ensures { result ≡ alarm_row maybe id labels }
+fn alarm_row(certainty: Certainty, id: Name, labels: ListOf<Name>) -> Row
+    ensures { result ≡ alarm_row (leaves_doubt certainty) id labels }
 {
-    if maybe {
-        Row::Maybe { id, labels }
-    } else {
-        Row::Alarm { id, labels }
+    match certainty {
+        Certainty::Certain => Row::Alarm { id, labels },
+        Certainty::Doubtful => Row::Maybe { id, labels },
     }
 }
 

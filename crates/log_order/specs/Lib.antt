@@ -1,4 +1,5 @@
 pub mod Log
+pub mod Certainty
 pub mod Meanings
 pub mod Adding
 pub mod Precedence

@@ -5,6 +5,7 @@ ghost use Rattle.des_base.specs.Names.{AreNames};
 ghost use Rattle.log_order.specs.Adding.{with_text, with_texts};
 ghost use Rattle.log_order.specs.declared.TheConstants.{MOST_LABELS};
 
+use crate::certainty::Certainty;
 use des_base::{Memory, Name};
 use std::alloc::Global;
 use std::marker::Model;
@@ -13,7 +14,7 @@ use std::marker::Model;
 #[derive(Drop)]
 pub struct AlarmMeaning {
     pub labels: Vec<Name>,
-    pub doubtful: bool,
+    pub certainty: Certainty,
 }
 
 impl Model for AlarmMeaning {
@@ -21,7 +22,9 @@ impl Model for AlarmMeaning {
 
     ghost Value = { AlarmMeaning };
 
-    ghost view = { λ a. record { labels = a.labels.items; doubtful = a.doubtful } };
+    ghost use Rattle.log_order.specs.Certainty.{leaves_doubt};
+
+    ghost view = { λ a. record { labels = a.labels.items; doubtful = leaves_doubt a.certainty } };
 }
 
 impl AlarmMeaning {
@@ -34,7 +37,7 @@ impl AlarmMeaning {
     pub fn is_doubtful(&self) -> bool
         ensures { result ≡ self.now.doubtful }
     {
-        self.doubtful
+        self.certainty.is_doubtful()
     }
 }
 

@@ -4,9 +4,11 @@ ghost use Rattle.des_base.specs.Names.{place_of};
 ghost use Rattle.des_base.specs.Refusing.{SucceedsUnless};
 ghost use Rattle.log_order.specs.Log.{no_log, has_pair, ListsOnce, Keeps, IsValidLog, StandOnce};
 ghost use Rattle.log_order.specs.Adding.{alarm_refusal, with_alarm, before_refusal, with_pair, names_of, IsLog};
+ghost use Rattle.log_order.specs.Certainty.{leaves_doubt};
 ghost use Rattle.log_order.specs.Order.{least_order};
 
 use crate::alarm::{AlarmMeaning, each_once};
+use crate::certainty::Certainty;
 use crate::precedence::Precedence;
 use crate::refusal::LogRefusal;
 use crate::{MOST_ALARMS, MOST_LABELS};
@@ -143,37 +145,42 @@ impl AlarmLog {
         None
     }
 
-    /// Adds an alarm, and answers its number. A repeated label counts once, and keeps its first place.
+    /// Adds an alarm, certain or doubtful, and answers its number. A repeated label counts once, and keeps its first place.
+    pub fn add(
+        &mut self,
+        id: Name,
+        labels: &[Name],
+        certainty: Certainty,
+    ) -> Result<u32, LogRefusal>
+        ensures refused { SucceedsUnless (alarm_refusal self.old id labels.now) LogRefusal.Memory result }
+        ensures ok { OnOk result (self.new ≡ with_alarm self.old id labels.now (leaves_doubt certainty)) }
+        ensures place { IfOk result (λ alarm. alarm ≡ length self.old.alarms) }
+        ensures err { OnErr result (self.new ≡ self.old) }
+    {
+        match self.test_alarm(&id, labels) {
+            Some(refusal) => Err(refusal),
+            None => Ok(self.put_alarm(id, labels, certainty)?),
+        }
+    }
+
+    /// Adds a certain alarm, and answers its number.
     pub fn add_alarm(&mut self, id: Name, labels: &[Name]) -> Result<u32, LogRefusal>
         ensures refused { SucceedsUnless (alarm_refusal self.old id labels.now) LogRefusal.Memory result }
         ensures ok { OnOk result (self.new ≡ with_alarm self.old id labels.now false) }
         ensures place { IfOk result (λ alarm. alarm ≡ length self.old.alarms) }
         ensures err { OnErr result (self.new ≡ self.old) }
     {
-        self.add(id, labels, false)
+        self.add(id, labels, Certainty::Certain)
     }
 
-    /// Adds an alarm that is perhaps false, and answers its number.
+    /// Adds a doubtful alarm, which is perhaps false, and answers its number.
     pub fn add_maybe(&mut self, id: Name, labels: &[Name]) -> Result<u32, LogRefusal>
         ensures refused { SucceedsUnless (alarm_refusal self.old id labels.now) LogRefusal.Memory result }
         ensures ok { OnOk result (self.new ≡ with_alarm self.old id labels.now true) }
         ensures place { IfOk result (λ alarm. alarm ≡ length self.old.alarms) }
         ensures err { OnErr result (self.new ≡ self.old) }
     {
-        self.add(id, labels, true)
-    }
-
-    // Adds an alarm, where it isn't refused.
-    fn add(&mut self, id: Name, labels: &[Name], doubtful: bool) -> Result<u32, LogRefusal>
-        ensures refused { SucceedsUnless (alarm_refusal self.old id labels.now) LogRefusal.Memory result }
-        ensures ok { OnOk result (self.new ≡ with_alarm self.old id labels.now doubtful) }
-        ensures place { IfOk result (λ alarm. alarm ≡ length self.old.alarms) }
-        ensures err { OnErr result (self.new ≡ self.old) }
-    {
-        match self.test_alarm(&id, labels) {
-            Some(refusal) => Err(refusal),
-            None => Ok(self.put_alarm(id, labels, doubtful)?),
-        }
+        self.add(id, labels, Certainty::Doubtful)
     }
 
     /// Replaces `into` by the order that takes, of the alarms whose predecessors are all taken, the one with the smallest
@@ -189,16 +196,16 @@ impl AlarmLog {
     }
 
     // Adds an alarm that isn't refused.
-    fn put_alarm(&mut self, id: Name, labels: &[Name], doubtful: bool) -> Result<u32, Memory>
+    fn put_alarm(&mut self, id: Name, labels: &[Name], certainty: Certainty) -> Result<u32, Memory>
         requires { alarm_refusal self.old id labels.now ≡ None }
-        ensures ok { OnOk result (self.new ≡ with_alarm self.old id labels.now doubtful) }
+        ensures ok { OnOk result (self.new ≡ with_alarm self.old id labels.now (leaves_doubt certainty)) }
         ensures place { IfOk result (λ alarm. alarm ≡ length self.old.alarms) }
         ensures err { OnErr result (self.new ≡ self.old) }
     {
         let _text = id.as_str();
         let meaning = AlarmMeaning {
             labels: each_once(self.alloc, labels)?,
-            doubtful,
+            certainty,
         };
         self.meanings.reserve(1)?;
         let number = self.precedence.add_number(&mut self.ids, id)?;

@@ -8,6 +8,7 @@
 
 mod alarm;
 mod alarm_log;
+mod certainty;
 mod marks;
 mod order;
 mod precedence;
@@ -15,6 +16,7 @@ mod refusal;
 
 pub use alarm::{each_once, has_label};
 pub use alarm_log::AlarmLog;
+pub use certainty::Certainty;
 pub use refusal::LogRefusal;
 
 /// A log has at most so many alarms.

@@ -4,6 +4,7 @@ use Rattle.std.specs.List.{AllByRecursion}
 use Rattle.des_base.specs.Names.{place_of, AreNames}
 use Rattle.des_base.proofs.TableLemmas.{AreNames-push}
 use Rattle.log_order.specs.Log.{Log, Alarm, an_alarm, a_log}
+use Rattle.log_order.specs.Certainty.{leaves_doubt}
 use Rattle.log_order.specs.Meanings.{AlarmMeaning, alarms_with}
 use Rattle.log_order.specs.View.{log_view}
 use Rattle.log_order.proofs.Meaning.{alarms_with-push}
@@ -31,14 +32,14 @@ add_number-requires-clause-new c = ap (place_of c.args.id) (c.self.invariant.nam
 
 -- the alarm that is added
 abbrev added : (c : goal.After-push_reserved) → Alarm
-added c = an_alarm c.args.id (with_texts [] c.args.labels.now) c.args.doubtful
+added c = an_alarm c.args.id (with_texts [] c.args.labels.now) (leaves_doubt c.args.certainty)
 
 alarms_are : (c : goal.After-push_reserved) → alarms_with c.add_number.new.ids c.push_reserved.new.self.items ≡ (log_view c.self.inside).alarms ++ added c ∷ []
 alarms_are c =
-    let meaning : AlarmMeaning = record { labels = with_texts [] c.args.labels.now; doubtful = c.args.doubtful } in
+    let meaning : AlarmMeaning = record { labels = with_texts [] c.args.labels.now; doubtful = leaves_doubt c.args.certainty } in
     let meanings : c.push_reserved.new.self.items ≡ c.self.inside.meanings.items ++ meaning ∷ [] =
-    c.push_reserved.ensures.items ∙ ap (λ ms. ms ++ record { labels = c.in_ok-each_once.field-0.items; doubtful = c.args.doubtful } ∷ []) c.in_ok-reserve.ensures.items
-    ∙ ap (λ (labels : List (List ℕ)). c.self.inside.meanings.items ++ record { labels = labels; doubtful = c.args.doubtful } ∷ []) c.in_ok-each_once.ensures.once in
+    c.push_reserved.ensures.items ∙ ap (λ ms. ms ++ record { labels = c.in_ok-each_once.field-0.items; doubtful = leaves_doubt c.args.certainty } ∷ []) c.in_ok-reserve.ensures.items
+    ∙ ap (λ (labels : List (List ℕ)). c.self.inside.meanings.items ++ record { labels = labels; doubtful = leaves_doubt c.args.certainty } ∷ []) c.in_ok-each_once.ensures.once in
     (λ i. alarms_with (c.in_ok-number.ensures.ids i) (meanings i)) ∙ alarms_with-push c.self.inside.ids c.self.inside.meanings.items c.args.id meaning c.self.invariant.paired
 
 pub invariant_of-self-2 : goal.invariant_of-self-2
@@ -53,14 +54,14 @@ invariant_of-self-2 c =
     let labels : AreNames (with_texts [] c.args.labels.now) = subst AreNames c.in_ok-each_once.ensures.once c.in_ok-each_once.ensures.names in
     let ids : length c.add_number.new.ids ≡ length c.self.inside.ids + 1 = ap length c.in_ok-number.ensures.ids ∙ length-append c.self.inside.ids (c.args.id ∷ []) in
     let meanings : length c.push_reserved.new.self.items ≡ length c.self.inside.meanings.items + 1 = ap length c.push_reserved.ensures.items
-    ∙ length-append c.reserve.new.self.items (record { labels = c.in_ok-each_once.field-0.items; doubtful = c.args.doubtful } ∷ []) ∙ ap (λ ms. length ms + 1) c.in_ok-reserve.ensures.items in
+    ∙ length-append c.reserve.new.self.items (record { labels = c.in_ok-each_once.field-0.items; doubtful = leaves_doubt c.args.certainty } ∷ []) ∙ ap (λ ms. length ms + 1) c.in_ok-reserve.ensures.items in
     let paired = c.self.invariant.paired in
     record {
       paired = omega arith;
       named = c.in_ok-number.ensures.ids ∙ ap (λ ids. ids ++ c.args.id ∷ []) c.self.invariant.named ∙ sym names;
       counted = ap (λ (p : Precedence). p.count) c.in_ok-number.ensures.ok ∙ ap (λ n. n + 1) c.self.invariant.counted ∙ sym long;
       names = subst AreNames (sym names) (AreNames-push (names_of old) c.args.id c.self.invariant.names c.as_str-text.ensures.name fresh (omega (arith, length-names_of old)));
-      alarms = subst (λ (xs : List Alarm). AllByRecursion IsAlarm xs) (sym is) (all_append IsAlarm old (added c ∷ []) c.self.invariant.alarms (IsAlarm-from c.args.id c.args.labels.now c.args.doubtful labels new.some new.few, tt));
+      alarms = subst (λ (xs : List Alarm). AllByRecursion IsAlarm xs) (sym is) (all_append IsAlarm old (added c ∷ []) c.self.invariant.alarms (IsAlarm-from c.args.id c.args.labels.now (leaves_doubt c.args.certainty) labels new.some new.few, tt));
       few_alarms = omega (arith, long);
       few_pairs = subst (λ (p : Precedence). length p.pairs ≤ MOST_PAIRS) (sym c.in_ok-number.ensures.ok) c.self.invariant.few_pairs;
     }
@@ -68,7 +69,7 @@ invariant_of-self-2 c =
 pub returns-clause-ok : goal.returns-clause-ok
 returns-clause-ok c =
     let pairs : c.add_number.new.self.pairs ≡ c.self.inside.precedence.pairs = ap (λ (p : Precedence). p.pairs) c.in_ok-number.ensures.ok in
-    (λ i. a_log (alarms_are c i) (pairs i)) ∙ ap (λ (log : Log). with_alarm log c.args.id c.args.labels.now c.args.doubtful) c.self.view_is
+    (λ i. a_log (alarms_are c i) (pairs i)) ∙ ap (λ (log : Log). with_alarm log c.args.id c.args.labels.now (leaves_doubt c.args.certainty)) c.self.view_is
 
 pub returns-clause-place : goal.returns-clause-place
 returns-clause-place c = c.in_ok-number.ensures.place ∙ c.self.invariant.counted ∙ ap (λ (log : Log). length log.alarms) c.self.view_is
