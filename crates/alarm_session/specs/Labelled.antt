@@ -1,10 +1,9 @@
 -- Events that can be seen by one of some labels.
-use Rattle.std.specs.Prelude.{ℕ, false, List, length, bytes_eq, count_by}
-use Rattle.std.specs.List.{list_any}
-use Rattle.std.specs.Option.{option_map_or}
+use Rattle.std.specs.Prelude.{ℕ, List, length, count_by}
 use Rattle.des_base.specs.Lists.{numbers_below}
-use Rattle.des_net.specs.Network.{Net, label_of}
+use Rattle.des_net.specs.Network.{Net}
+use Rattle.replay.specs.Explanation.{has_any_label}
 
 -- how many events of the network can be seen by one of these labels
 abbrev pub labelled_count : Net → List (List ℕ) → ℕ
-labelled_count net labels = count_by (λ e. option_map_or (λ label. list_any (bytes_eq label) labels) (label_of net e) false) (numbers_below (length net.events))
+labelled_count net labels = count_by (has_any_label net labels) (numbers_below (length net.events))

@@ -12,7 +12,7 @@ use Rattle.log_clauses.specs.Additions.{alarm_added, with_addition}
 use Rattle.log_clauses.specs.LogClauses.{chain, guard_literals, matching_events}
 use Rattle.log_clauses.specs.Decoded.{alarm_at, is_false_alarm}
 use Rattle.log_clauses.specs.LogNames.{first_meanings, ReadsInOrder}
-use Rattle.replay.specs.Explanation.{is_matching}
+use Rattle.replay.specs.Explanation.{is_matching, has_any_label}
 use Rattle.run_clauses.proofs.Lists.{in_numbers}
 use Rattle.log_clauses.proofs.Numbered.{ordered_literal, ordered_names}
 use Rattle.card_counter.specs.CounterState.{positive}
@@ -30,7 +30,7 @@ use Rattle.log_encode.specs.Drafted.{LogCodeState, IsStepOfAlarm}
 use Rattle.log_encode.specs.declared.taken.ChainEnd.{ChainEnd}
 use Rattle.log_encode.specs.declared.taken.Taken.{Taken}
 use Rattle.log_encode.specs.View.{IsChainEnd, IsRest, AreEnds, AreFalse, IsCodedAlarm, AreKept, KeepsLogCode, coded_of, coded, code_view}
-use Rattle.log_encode.specs.Written.{has_any_label, taken_from, first_ends, guards_of, all_closed_written, alarm_written, dropped_written, ends_after, HasRest, link_from, link_of}
+use Rattle.log_encode.specs.Written.{taken_from, first_ends, guards_of, all_closed_written, alarm_written, dropped_written, ends_after, HasRest, link_from, link_of}
 use Rattle.prop_core.specs.declared.grid.Grid.{Grid}
 use Rattle.prop_core.specs.declared.lit.Lit.{Lit}
 use Rattle.prop_core.specs.Clauses.{Clause}

@@ -19,11 +19,12 @@ use Rattle.log_encode.proofs.CodeLemmas.{beside}
 use Rattle.log_encode.proofs.Reading.{zip_flat, zip_count, AreLinkNames, link_reads, AreAlarmNames, done_reads, real_reads, reads_two, reads_three, Reads}
 use Rattle.log_encode.proofs.StayLemmas.{named_still}
 use Rattle.log_encode.proofs.TakenLemmas.{taken_are_events, taken_is_filter}
+use Rattle.replay.specs.Explanation.{has_any_label}
 use Rattle.log_encode.specs.AlarmVariables.{done_variable}
 use Rattle.log_encode.specs.CodedLog.{CodedLog, log_meanings, meanings_from, read_meanings, code_after, empty_code, nameless, IsCodedLog}
 use Rattle.log_encode.specs.declared.taken.ChainEnd.{ChainEnd}
 use Rattle.log_encode.specs.View.{IsChainEnd, IsRest}
-use Rattle.log_encode.specs.Written.{has_any_label, taken_from, rest_variable, link_written, link_variables, steps_of_link, links_written, done_written, real_written, alarm_written, pair_written, closed_written, all_closed_written}
+use Rattle.log_encode.specs.Written.{taken_from, rest_variable, link_written, link_variables, steps_of_link, links_written, done_written, real_written, alarm_written, pair_written, closed_written, all_closed_written}
 use Rattle.prop_core.proofs.NameLemmas.{found_more}
 use Rattle.prop_core.specs.declared.grid.Grid.{Grid}
 use Rattle.prop_core.specs.Grids.{grid_variable}

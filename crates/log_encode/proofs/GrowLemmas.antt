@@ -18,13 +18,14 @@ use Rattle.log_encode.proofs.CodeLemmas.{names_with_alarm, raised, false_more}
 use Rattle.log_encode.proofs.StayLemmas.{end_stays, chain_joined, named_still}
 use Rattle.log_encode.proofs.TakenLemmas.{taken_are_events, taken_is_filter, width_is, map_count}
 use Rattle.log_encode.proofs.VariableLemmas.{link_is_small}
+use Rattle.replay.specs.Explanation.{has_any_label}
 use Rattle.log_encode.specs.AlarmVariables.{alarm_variable_count, false_width, dropped_variable}
 use Rattle.log_encode.specs.CodedLog.{CodedLog, log_meanings, code_after, addition_width, nameless, false_literals, IsCodedLog}
 use Rattle.log_encode.specs.declared.alarm_vars.AlarmVars.{AlarmVars}
 use Rattle.log_encode.specs.declared.taken.ChainEnd.{ChainEnd}
 use Rattle.log_encode.specs.declared.taken.Taken.{Taken}
 use Rattle.log_encode.specs.View.{IsChainEnd, AreEnds, AreFalse, IsCodedAlarm}
-use Rattle.log_encode.specs.Written.{has_any_label, taken_from, end_after, ends_after, guards_of, dropped_written}
+use Rattle.log_encode.specs.Written.{taken_from, end_after, ends_after, guards_of, dropped_written}
 use Rattle.prop_core.specs.declared.lit.Lit.{Lit}
 use Rattle.prop_core.specs.VariableNames.{Meaning, NamedLiteral, meaning_of, yes, closed, remaining, done, dropped}
 use Rattle.std.specs.Prelude.{is_some}

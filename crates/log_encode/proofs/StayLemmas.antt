@@ -15,12 +15,11 @@ use Rattle.log_encode.specs.AlarmState.{AlarmState}
 use Rattle.log_encode.specs.CodedLog.{CodedLog, log_meanings, code_after, addition_width, nameless, IsCodedLog}
 use Rattle.log_encode.specs.declared.taken.ChainEnd.{ChainEnd}
 use Rattle.log_encode.specs.View.{IsChainEnd, IsRest, AreEnds, AreFalse, IsCodedAlarm, AreKept, coded_of}
-use Rattle.log_encode.specs.Written.{has_any_label}
 use Rattle.prop_core.proofs.NameLemmas.{found_more}
 use Rattle.prop_core.specs.declared.grid.Grid.{Grid}
 use Rattle.prop_core.specs.declared.lit.Lit.{Lit}
 use Rattle.prop_core.specs.VariableNames.{Meaning, meaning_of, closed, remaining}
-use Rattle.replay.specs.Explanation.{is_matching}
+use Rattle.replay.specs.Explanation.{is_matching, has_any_label}
 use Rattle.run_clauses.specs.LaidOut.{laid_out}
 
 -- what has a name keeps it

@@ -18,8 +18,8 @@ use Rattle.log_encode.specs.AlarmVariables.{alarm_variable_count, false_width}
 use Rattle.log_encode.specs.CodedLog.{nameless}
 use Rattle.log_encode.specs.declared.taken.ChainEnd.{ChainEnd}
 use Rattle.log_encode.specs.declared.taken.Taken.{Taken}
-use Rattle.log_encode.specs.Written.{has_any_label, taken_from}
-use Rattle.replay.specs.Explanation.{is_matching}
+use Rattle.log_encode.specs.Written.{taken_from}
+use Rattle.replay.specs.Explanation.{is_matching, has_any_label}
 use Rattle.run_clauses.specs.LaidOut.{chain_meanings}
 use Rattle.std.specs.Prelude.{flat_map}
 use Rattle.std.proofs.lemmas.List.FromFn.{length-range_with_len}

@@ -1,10 +1,9 @@
 -- The clauses that are written for a log, as lists over variables. What they say by name is told in `log_clauses`.
-use Rattle.std.specs.Prelude.{ℕ, suc, ◌+◌, ◌*◌, Bool, false, List, [], ◌∷◌, ◌++◌, map, flat_map, Option, Some, None, bytes_eq, if◌then◌else◌, ◌==◌, ◌<◌, ◌≤◌, IfSome}
-use Rattle.std.specs.List.{list_any}
-use Rattle.std.specs.Option.{option_map_or}
+use Rattle.std.specs.Prelude.{ℕ, suc, ◌+◌, ◌*◌, List, [], ◌∷◌, ◌++◌, map, flat_map, Option, Some, None, if◌then◌else◌, ◌==◌, ◌<◌, ◌≤◌, IfSome}
 use Rattle.des_base.specs.Lists.{numbers_below}
 use Rattle.des_base.specs.declared.TheConstants.{VAR_LIMIT}
-use Rattle.des_net.specs.Network.{Net, label_of}
+use Rattle.des_net.specs.Network.{Net}
+use Rattle.replay.specs.Explanation.{has_any_label}
 use Rattle.prop_core.specs.declared.grid.Grid.{Grid}
 use Rattle.prop_core.specs.declared.lit.Lit.{Lit}
 use Rattle.prop_core.specs.Clauses.{Clause}
@@ -16,10 +15,6 @@ use Rattle.log_encode.specs.declared.taken.Taken.{Taken}
 use Rattle.log_encode.specs.declared.taken.ChainEnd.{ChainEnd}
 use Rattle.log_encode.specs.declared.writing.LinkVars.{LinkVars}
 use Rattle.log_encode.specs.AlarmVariables.{closed_variable, match_variable, passed_variable, done_variable, chain_variable, dropped_variable}
-
--- the event has one of the labels
-abbrev pub has_any_label : Net → List (List ℕ) → ℕ → Bool
-has_any_label net labels e = option_map_or (λ label. list_any (bytes_eq label) labels) (label_of net e) false
 
 -- the ends of chains whose events have one of the labels
 abbrev pub taken_from : Net → List (List ℕ) → List ChainEnd → List Taken

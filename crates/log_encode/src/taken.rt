@@ -1,13 +1,13 @@
 // The events that an alarm may stand for, with the ends of their chains.
 ghost use Rattle.std.specs.Prelude.{◌≡◌, ◌<◌, ◌≤◌, ◌+◌, ◌*◌, length, All, IfOk, IfSome};
 ghost use Rattle.log_encode.specs.AlarmVariables.{AreWithinLimit};
-ghost use Rattle.log_encode.specs.Written.{rest_variable, has_any_label, taken_from, end_after, ends_after};
+ghost use Rattle.log_encode.specs.Written.{rest_variable, taken_from, end_after, ends_after};
 
 use crate::alarm_vars::AlarmVars;
 use des_base::{EventId, Memory, Name, VAR_LIMIT};
 use des_net::Network;
-use log_order::has_label;
 use prop_core::Grid;
+use replay::has_any_label;
 use std::alloc::Global;
 
 // The end of the chain of an event that can be seen: the variable that says that it ends there, and the first of those by
@@ -39,17 +39,6 @@ impl Taken {
             None => grid.var(self.event.0, step + 1),
             Some(first) => first + step * 2,
         }
-    }
-}
-
-// Whether the event has one of the labels.
-fn has_any_label(net: &Network, event: EventId, labels: &[Name]) -> bool
-    requires { event < length net.now.events }
-    ensures { result ≡ has_any_label net.now labels.now event }
-{
-    match net.label(event) {
-        Some(label) => has_label(labels, label),
-        None => false,
     }
 }
 

@@ -20,9 +20,13 @@ Shows net log e alarm = IsSomeAnd (label_of net e) (Contains (labels_of log alar
 abbrev pub has_label : Log → ℕ → List ℕ → Bool
 has_label log alarm label = list_any (bytes_eq label) (labels_of log alarm)
 
+-- event e can be seen, and its label is one of these
+abbrev pub has_any_label : Net → List (List ℕ) → ℕ → Bool
+has_any_label net labels e = option_map_or (λ label. list_any (bytes_eq label) labels) (label_of net e) false
+
 -- event e shows the alarm, by a test: it can be seen, and the alarm may have its label
 abbrev pub is_matching : Net → Log → ℕ → ℕ → Bool
-is_matching net log e alarm = option_map_or (has_label log alarm) (label_of net e) false
+is_matching net log e alarm = has_any_label net (labels_of log alarm) e
 
 -- an alarm in its place, and whether it is true: a false one stands for no event
 pub record Entry : Type 0 where

@@ -1,10 +1,7 @@
 // What alarms add to the size of a question.
-ghost use Rattle.std.specs.Prelude.{◌≡◌, ◌<◌, ◌≤◌, ◌+◌, ◌*◌, ◌^◌, length, bytes_eq, false};
-ghost use Rattle.std.specs.List.{list_any};
-ghost use Rattle.std.specs.Option.{option_map_or};
+ghost use Rattle.std.specs.Prelude.{◌≡◌, ◌<◌, ◌≤◌, ◌+◌, ◌*◌, ◌^◌, length};
 ghost use Rattle.des_net.specs.Building.{IsDraft};
 ghost use Rattle.des_net.specs.Limits.{most_events};
-ghost use Rattle.des_net.specs.Network.{label_of};
 ghost use Rattle.log_order.specs.Adding.{IsLog};
 ghost use Rattle.log_order.specs.declared.TheConstants.{MOST_ALARMS};
 ghost use Rattle.log_order.specs.Log.{is_doubtful};
@@ -12,7 +9,8 @@ ghost use Rattle.replay.specs.QuestionSize.{matching_count, alarm_sizes, doubtfu
 
 use des_base::{EventId, Name};
 use des_net::Network;
-use log_order::{AlarmLog, has_label};
+use log_order::AlarmLog;
+use replay::has_any_label;
 
 /// For each alarm, the square of the events that it may stand for, and one.
 #[tactic(auto, using(des_base::proofs::NumbersBelow::sum_numbers_more))]
@@ -46,19 +44,8 @@ fn matching_events(net: &Network, log: &AlarmLog, alarm: u32) -> u64
 {
     let labels = log.labels(alarm);
     (0..net.events())
-        .filter(|event| has_label_among(net, EventId(*event), labels))
+        .filter(|event| has_any_label(net, EventId(*event), labels))
         .count() as u64
-}
-
-/// Whether the event can be seen, and by one of these labels.
-pub fn has_label_among(net: &Network, event: EventId, labels: &[Name]) -> bool
-    requires event { event < length net.now.events }
-    ensures { result ≡ option_map_or (λ label. list_any (bytes_eq label) labels.now) (label_of net.now event) false }
-{
-    match net.label(event) {
-        Some(label) => has_label(labels, label),
-        None => false,
-    }
 }
 
 /// How many alarms are doubtful.

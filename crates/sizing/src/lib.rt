@@ -11,6 +11,6 @@ mod alarms;
 mod events;
 mod question;
 
-pub use alarms::{alarm_sizes, doubtful_alarms, has_label_among};
+pub use alarms::{alarm_sizes, doubtful_alarms};
 pub use events::{component_sizes, fault_events};
 pub use question::question_size;
