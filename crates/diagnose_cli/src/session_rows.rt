@@ -4,15 +4,14 @@ ghost use Rattle.std.specs.Option.{option_to_list};
 ghost use Rattle.alarm_session.specs.declared.rows.Told.TheVariants.{Made as NothingTold};
 ghost use Rattle.diagnose_cli.specs.SessionReplies.{replies_to};
 ghost use Rattle.diagnose_cli.specs.Sessions.{IsOfPlan, RowIsUntold, RowTells, TellsKnown};
-ghost use Rattle.report.specs.Replies.{EventsKnown, text_of_found, text_of_refused};
+ghost use Rattle.report.specs.Replies.{text_of_refused};
 
 use crate::command::Limits;
 use alarm_session::{Session, Told};
 use des_base::Memory;
 use des_net::Network;
-use least_faults::Found;
 use log_csv::{Row, Script};
-use report::{print_found, print_refused};
+use report::{found_text, print_refused};
 use std::alloc::Global;
 use telling::Teller;
 
@@ -70,14 +69,5 @@ fn refusal_text(alloc: Global, number: u32) -> Result<Vec<u8>, Memory>
 {
     let mut text = Vec::new(alloc);
     print_refused(number, &mut text)?;
-    Ok(text)
-}
-
-fn found_text(alloc: Global, net: &Network, steps: u32, found: &Found) -> Result<Vec<u8>, Memory>
-    requires { EventsKnown net.now found.now }
-    ensures { IfOk result (λ text. text.items ≡ text_of_found net.now steps found.now) }
-{
-    let mut text = Vec::new(alloc);
-    print_found(found, net, steps, &mut text)?;
     Ok(text)
 }

@@ -1,5 +1,5 @@
 // The text of what is found of a log.
-ghost use Rattle.std.specs.Prelude.{◌≡◌, ◌<◌, ◌++◌, All, length, IfSome, OnErr, OnOk};
+ghost use Rattle.std.specs.Prelude.{◌≡◌, ◌<◌, ◌++◌, All, length, IfOk, IfSome, OnErr, OnOk};
 ghost use Rattle.replay.specs.Traced.{word_of};
 ghost use Rattle.des_base.specs.Lists.{Extends};
 ghost use Rattle.report.specs.Replies.{EventsKnown, text_of_bounds, text_of_found, text_of_run};
@@ -9,6 +9,7 @@ use crate::run::push_run;
 use answers::{Best, Found};
 use des_base::{Memory, push_decimal};
 use des_net::Network;
+use std::alloc::Global;
 
 /// Appends what was found of the least number of faults within n steps.
 ///
@@ -22,6 +23,16 @@ pub fn print_found(found: &Found, net: &Network, n: u32, out: &mut Vec<u8>) -> R
     let before = out.len();
     let pushed = push_found(found, net, n, out);
     whole_or_nothing(pushed, before, out)
+}
+
+/// The text of that.
+pub fn found_text(alloc: Global, net: &Network, n: u32, found: &Found) -> Result<Vec<u8>, Memory>
+    requires { EventsKnown net.now found.now }
+    ensures { IfOk result (λ text. text.items ≡ text_of_found net.now n found.now) }
+{
+    let mut text = Vec::new(alloc);
+    print_found(found, net, n, &mut text)?;
+    Ok(text)
 }
 
 // The same, but where memory is wanting some of it may be there.

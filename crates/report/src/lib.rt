@@ -20,7 +20,7 @@ mod verdict;
 
 pub use cheap::print_cheap;
 pub use checked::print_checked;
-pub use found::print_found;
+pub use found::{found_text, print_found};
 pub use laws::{replies_fit, replies_read_back, runs_fit, runs_read_back};
 pub use refused::print_refused;
 pub use replayed::print_replayed;

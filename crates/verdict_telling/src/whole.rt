@@ -1,5 +1,5 @@
 // What is found of a log, and then the verdicts.
-ghost use Rattle.std.specs.Prelude.{◌≡◌, ◌≤◌, IfOk, IsErrOf};
+ghost use Rattle.std.specs.Prelude.{◌≡◌, ◌≤◌, IsErrOf};
 ghost use Rattle.des_base.specs.Outside.{Rose};
 ghost use Rattle.inquiries.specs.Begun.{HasAskedWithin, HasBegun, HasQuestion};
 ghost use Rattle.least_faults.specs.declared.TheConstants.{MOST_SIZE};
@@ -11,11 +11,10 @@ ghost use Rattle.telling.specs.Telling.{RisesExactlyIf};
 
 use crate::verdicts::tell_verdicts;
 use des_base::{Memory, Sink};
-use des_net::Network;
 use inquiries::{Case, find_least};
 use least_faults::{Found, Parts};
 use proof_ledger::Ledger;
-use report::print_found;
+use report::found_text;
 use std::alloc::Global;
 use telling::Broken;
 
@@ -132,13 +131,4 @@ fn put_found<S: Sink>(
         },
         Err(Memory) => Err(Broken::Memory),
     }
-}
-
-fn found_text(alloc: Global, net: &Network, steps: u32, found: &Found) -> Result<Vec<u8>, Memory>
-    requires { EventsKnown net.now found.now }
-    ensures { IfOk result (λ text. text.items ≡ text_of_found net.now steps found.now) }
-{
-    let mut text = Vec::new(alloc);
-    print_found(found, net, steps, &mut text)?;
-    Ok(text)
 }
