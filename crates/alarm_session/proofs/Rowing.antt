@@ -7,8 +7,8 @@ use Rattle.alarm_session.specs.Rows.{AreRowsTold, HasCarriedOut, IsLeftUndone, I
 use Rattle.alarm_session.specs.Session.{Becomes, IsSessionBook, Stage, first_stage}
 use Rattle.alarm_session.specs.declared.refusal.SessionRefusal.{SessionRefusal}
 use Rattle.alarm_session.specs.declared.refusal.SessionRefusal.TheVariants.{Double, Unknown, Cycle, NoLabels, Limit, TooLarge, Memory}
-use Rattle.alarm_session.specs.declared.rows.Told.{Told}
-use Rattle.alarm_session.specs.declared.rows.Told.TheVariants.{Made, Refused, Answered}
+use Rattle.alarm_session.specs.declared.rows.RowTold.{RowTold}
+use Rattle.alarm_session.specs.declared.rows.RowTold.TheVariants.{Made, Refused, Answered}
 use Rattle.des_base.specs.Lists.{Extends}
 use Rattle.des_base.specs.Refusing.{SucceedsUnless}
 use Rattle.des_base.specs.declared.memory.Memory.{Memory as NoMemory}
@@ -120,7 +120,7 @@ module _ (net : Net) (n budget : ℕ) (old : Stage) (row : Row) (new : Stage) wh
   by_answer (Err (TooLarge size)) addition is becomes again same book = refused (TooLarge size) (λ h. cc) (is (λ h. cc)) same book
   by_answer (Err Memory) addition is becomes again same book = tt
 
-  pub addition_told : {X : Type 0} (answer : Result X SessionRefusal) (told : Result Told NoMemory) → told ≡ told_by answer → row ≢ Ask → SucceedsUnless (row_refusal net n old.log row) Memory answer →
+  pub addition_told : {X : Type 0} (answer : Result X SessionRefusal) (told : Result RowTold NoMemory) → told ≡ told_by answer → row ≢ Ask → SucceedsUnless (row_refusal net n old.log row) Memory answer →
       OnOk answer (Becomes net n (with_row old.log row) (row_addition old.log row) old new) → OnOk answer (with_row old.log row ≡ old.log → new ≡ old) → OnErr answer (new ≡ old) → IsSessionBook net n new → IfOk told (IsRowTold net n budget old row new)
   addition_told answer told is addition answers becomes again same book = subst (λ r. IfOk r (IsRowTold net n budget old row new)) (sym is) (by_answer answer addition answers becomes again same book)
 
@@ -137,7 +137,7 @@ module _ (net : Net) (n budget : ℕ) (old : Stage) (row : Row) (new : Stage) wh
     book = book;
   }
 
-  pub addition_undone : {X : Type 0} (answer : Result X SessionRefusal) (told : Result Told NoMemory) → told ≡ told_by answer → OnErr answer (new ≡ old) → IsSessionBook net n new → OnErr told (IsLeftUndone net n budget old row new)
+  pub addition_undone : {X : Type 0} (answer : Result X SessionRefusal) (told : Result RowTold NoMemory) → told ≡ told_by answer → OnErr answer (new ≡ old) → IsSessionBook net n new → OnErr told (IsLeftUndone net n budget old row new)
   addition_undone answer told is same book = subst (λ r. OnErr r (IsLeftUndone net n budget old row new)) (sym is) (by_cases answer same)
     where
       by_cases : {X : Type 0} (answer : Result X SessionRefusal) → OnErr answer (new ≡ old) → OnErr (told_by answer) (IsLeftUndone net n budget old row new)
@@ -151,7 +151,7 @@ module _ (net : Net) (n budget : ℕ) (old : Stage) (row : Row) (new : Stage) wh
       by_cases (Err Memory) same = left same book
 
   -- the book goes on
-  pub row_extends : (told : Told) → IsRowTold net n budget old row new told → Extends old.book new.book
+  pub row_extends : (told : RowTold) → IsRowTold net n budget old row new told → Extends old.book new.book
   row_extends Made is = record { more = map axiomatic is.tells.few.axioms; is = is.tells.few.more }
   row_extends (Refused refusal) is = record { more = []; is = ap (λ (s : Stage). s.book) is.tells.same ∙ sym (append-nil old.book) }
   row_extends (Answered found) is =
@@ -171,18 +171,18 @@ module _ (net : Net) (n budget : ℕ) where
   log_after_more before (first ∷ rows) row = log_after_more (after_row net n before first) rows row
 
   -- what is told with one more row
-  pub rows_told_more : (old : Stage) (rows : List Row) (row : Row) (mid new : Stage) (told : List Told) (here : Told) → AreRowsTold net n budget old rows mid told →
+  pub rows_told_more : (old : Stage) (rows : List Row) (row : Row) (mid new : Stage) (told : List RowTold) (here : RowTold) → AreRowsTold net n budget old rows mid told →
       IsRowTold net n budget mid row new here → AreRowsTold net n budget old (rows ++ row ∷ []) new (told ++ here ∷ [])
   rows_told_more old [] row mid new told here are is = (new, here, [], subst (λ s. IsRowTold net n budget s row new here) are.0 is, (refl, refl), ap (λ t. t ++ here ∷ []) are.1)
   rows_told_more old (first ∷ rows) row mid new told here are is =
       (are.0, are.1, are.2 ++ here ∷ [], are.3, rows_told_more are.0 rows row mid new are.2 here are.4 is, ap (λ t. t ++ here ∷ []) are.5)
 
   -- the log is that of the rows, and the question is built of them
-  pub rows_log : (old : Stage) (rows : List Row) (new : Stage) (told : List Told) → AreRowsTold net n budget old rows new told → new.log ≡ log_after_rows net n old.log rows
+  pub rows_log : (old : Stage) (rows : List Row) (new : Stage) (told : List RowTold) → AreRowsTold net n budget old rows new told → new.log ≡ log_after_rows net n old.log rows
   rows_log old [] new told are = ap (λ (s : Stage). s.log) are.0
   rows_log old (row ∷ rows) new told are = rows_log are.0 rows new are.2 are.4 ∙ ap (λ l. log_after_rows net n l rows) are.3.log
 
-  pub rows_are_built : (old : Stage) (rows : List Row) (new : Stage) (told : List Told) → AreRowsTold net n budget old rows new told → (columns : List ℕ) × (new.built ≡ rows_built net n old.log old.built rows columns)
+  pub rows_are_built : (old : Stage) (rows : List Row) (new : Stage) (told : List RowTold) → AreRowsTold net n budget old rows new told → (columns : List ℕ) × (new.built ≡ rows_built net n old.log old.built rows columns)
   rows_are_built old [] new told are = ([], ap (λ (s : Stage). s.built) are.0)
   rows_are_built old (row ∷ rows) new told are =
       let rest = rows_are_built are.0 rows new are.2 are.4 in (
@@ -193,7 +193,7 @@ module _ (net : Net) (n budget : ℕ) where
       )
 
   -- the book of the end has that of the beginning as its front
-  pub rows_extend : (old : Stage) (rows : List Row) (new : Stage) (told : List Told) → AreRowsTold net n budget old rows new told → Extends old.book new.book
+  pub rows_extend : (old : Stage) (rows : List Row) (new : Stage) (told : List RowTold) → AreRowsTold net n budget old rows new told → Extends old.book new.book
   rows_extend old [] new told are = record { more = []; is = ap (λ (s : Stage). s.book) are.0 ∙ sym (append-nil old.book) }
   rows_extend old (row ∷ rows) new told are =
       let here = row_extends net n budget old row are.0 are.1 are.3 in
@@ -202,7 +202,7 @@ module _ (net : Net) (n budget : ℕ) where
 
   -- ---- a session
 
-  carried_out : (rows : List Row) (left : Stage) (told : List Told) → AreRowsTold net n budget (first_stage net n) rows left told → IsSessionBook net n left → HasCarriedOut net n budget rows left told
+  carried_out : (rows : List Row) (left : Stage) (told : List RowTold) → AreRowsTold net n budget (first_stage net n) rows left told → IsSessionBook net n left → HasCarriedOut net n budget rows left told
   carried_out rows left told each book = record {
     each = each;
     log = rows_log (first_stage net n) rows left told each;
@@ -215,6 +215,6 @@ module _ (net : Net) (n budget : ℕ) where
   pub nothing_carried_out : (begun : Stage) → begun ≡ first_stage net n → IsSessionBook net n begun → HasCarriedOut net n budget [] begun []
   nothing_carried_out begun is book = carried_out [] begun [] (is, refl) book
 
-  pub carried_out_more : (rows : List Row) (row : Row) (mid left : Stage) (told : List Told) (here : Told) → HasCarriedOut net n budget rows mid told → IsRowTold net n budget mid row left here →
+  pub carried_out_more : (rows : List Row) (row : Row) (mid left : Stage) (told : List RowTold) (here : RowTold) → HasCarriedOut net n budget rows mid told → IsRowTold net n budget mid row left here →
       HasCarriedOut net n budget (rows ++ row ∷ []) left (told ++ here ∷ [])
   carried_out_more rows row mid left told here has is = carried_out (rows ++ row ∷ []) left (told ++ here ∷ []) (rows_told_more (first_stage net n) rows row mid left told here has.each is) is.book

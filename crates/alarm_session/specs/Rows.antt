@@ -5,8 +5,8 @@ use Rattle.alarm_session.specs.Refusals.{refusal_of_alarm, refusal_of_before, lo
 use Rattle.alarm_session.specs.Session.{KeepsLog, IsSessionBook, IsToldBy, IsUnanswered, Stage, first_stage}
 use Rattle.alarm_session.specs.declared.refusal.SessionRefusal.{SessionRefusal}
 use Rattle.alarm_session.specs.declared.refusal.SessionRefusal.TheVariants.{Double, Unknown, Cycle, NoLabels, Limit, TooLarge, Memory}
-use Rattle.alarm_session.specs.declared.rows.Told.{Told}
-use Rattle.alarm_session.specs.declared.rows.Told.TheVariants.{Made, Refused, Answered}
+use Rattle.alarm_session.specs.declared.rows.RowTold.{RowTold}
+use Rattle.alarm_session.specs.declared.rows.RowTold.TheVariants.{Made, Refused, Answered}
 use Rattle.des_base.specs.Lists.{Extends}
 use Rattle.des_base.specs.declared.memory.Memory.{Memory as NoMemory}
 use Rattle.des_net.specs.Network.{Net}
@@ -95,13 +95,13 @@ pub record IsAsked (net : Net) (n budget : ℕ) (old : Stage) (row : Row) (new :
   pub told : IsToldBy net n budget old new found
 
 -- what it means that a row told this: an addition was made or refused, or a question was answered
-abbrev pub TellsOfRow : Net → ℕ → ℕ → Stage → Row → Stage → Told → Type 0
+abbrev pub TellsOfRow : Net → ℕ → ℕ → Stage → Row → Stage → RowTold → Type 0
 TellsOfRow net n budget old row new Made = IsAdditionMade net n old row new
 TellsOfRow net n budget old row new (Refused refusal) = IsRefused net n old row new refusal
 TellsOfRow net n budget old row new (Answered found) = IsAsked net n budget old row new found
 
 -- What a row told, and how far the session has come with it: log and question are those after the row, the question with so many columns more where the row asks. The book has its axioms, is valid and lean, and asks what explains the log.
-pub record IsRowTold (net : Net) (n budget : ℕ) (old : Stage) (row : Row) (new : Stage) (told : Told) : Type 0 where
+pub record IsRowTold (net : Net) (n budget : ℕ) (old : Stage) (row : Row) (new : Stage) (told : RowTold) : Type 0 where
   pub tells : TellsOfRow net n budget old row new told
   pub log : new.log ≡ after_row net n old.log row
   pub columns : ℕ
@@ -117,7 +117,7 @@ pub record IsLeftUndone (net : Net) (n budget : ℕ) (old : Stage) (row : Row) (
   pub book : IsSessionBook net n new
 
 -- what an addition tells that was made, or refused so; want of memory isn't told
-abbrev pub told_by : {X : Type 0} → Result X SessionRefusal → Result Told NoMemory
+abbrev pub told_by : {X : Type 0} → Result X SessionRefusal → Result RowTold NoMemory
 told_by (Ok x) = Ok Made
 told_by (Err Double) = Ok (Refused Double)
 told_by (Err Unknown) = Ok (Refused Unknown)
@@ -130,14 +130,14 @@ told_by (Err Memory) = Err (record {})
 -- ---- what all rows tell
 
 -- The rows told these one after another, each where the session had come to by those before it.
-abbrev pub AreRowsTold : Net → ℕ → ℕ → Stage → List Row → Stage → List Told → Type 0
+abbrev pub AreRowsTold : Net → ℕ → ℕ → Stage → List Row → Stage → List RowTold → Type 0
 AreRowsTold net n budget old [] new told = (new ≡ old) × (told ≡ [])
 AreRowsTold net n budget old (row ∷ rows) new told =
-    (mid : Stage) × (here : Told) × (rest : List Told) × IsRowTold net n budget old row mid here × AreRowsTold net n budget mid rows new rest × (told ≡ here ∷ rest)
+    (mid : Stage) × (here : RowTold) × (rest : List RowTold) × IsRowTold net n budget old row mid here × AreRowsTold net n budget mid rows new rest × (told ≡ here ∷ rest)
 
 -- A session carried out these rows from its beginning, which told these, and came so far. Its log is that of all the rows, and its question is the one that network, n, rows and numbers of columns determine.
 -- The book goes on from the axioms of the empty log's question. It has the axioms of the question that it came to, as a list, is valid and lean, and asks what explains the log.
-pub record HasCarriedOut (net : Net) (n budget : ℕ) (rows : List Row) (left : Stage) (told : List Told) : Type 0 where
+pub record HasCarriedOut (net : Net) (n budget : ℕ) (rows : List Row) (left : Stage) (told : List RowTold) : Type 0 where
   pub each : AreRowsTold net n budget (first_stage net n) rows left told
   pub log : left.log ≡ log_after_rows net n no_log rows
   pub columns : List ℕ

@@ -17,5 +17,5 @@ mod size;
 mod whole;
 
 pub use refusal::SessionRefusal;
-pub use rows::Told;
+pub use rows::RowTold;
 pub use session::Session;

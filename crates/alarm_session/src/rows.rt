@@ -16,7 +16,7 @@ use log_order::Certainty;
 
 /// What a row of a script tells.
 #[derive(Drop)]
-pub enum Told {
+pub enum RowTold {
     /// The addition was made.
     Made,
     /// The addition was refused for this, which isn't want of memory.
@@ -31,7 +31,7 @@ pub fn carry_out_kept<R: Fn(u32) -> u64>(
     row: &Row,
     kept: &mut Kept<R>,
     budget: u64,
-) -> Result<Told, Memory>
+) -> Result<RowTold, Memory>
     requires kept { IsRankedKept R.pre R.post setting.net.now setting.steps kept.old }
     ensures kept { IsRankedKept R.pre R.post setting.entry.net.now setting.entry.steps kept.new }
     ensures rank { kept.new.parts.solver.order.rank ≡ kept.old.parts.solver.order.rank }
@@ -42,7 +42,7 @@ pub fn carry_out_kept<R: Fn(u32) -> u64>(
         Row::Ask => {
             let found = ask_kept(setting, kept, budget);
             is_session_book(setting, kept);
-            Ok(Told::Answered(found?))
+            Ok(RowTold::Answered(found?))
         }
         _ => {
             let answer = put_row(setting, row, kept);
@@ -68,11 +68,23 @@ fn put_row<R: Fn(u32) -> u64>(
 {
     match row {
         Row::Alarm { id, labels } => {
-            put_alarm(setting, id.copy()?, labels.as_slice(), Certainty::Certain, kept)?;
+            put_alarm(
+                setting,
+                id.copy()?,
+                labels.as_slice(),
+                Certainty::Certain,
+                kept,
+            )?;
             Ok(())
         }
         Row::Maybe { id, labels } => {
-            put_alarm(setting, id.copy()?, labels.as_slice(), Certainty::Doubtful, kept)?;
+            put_alarm(
+                setting,
+                id.copy()?,
+                labels.as_slice(),
+                Certainty::Doubtful,
+                kept,
+            )?;
             Ok(())
         }
         Row::Before { first, second } => {
@@ -84,12 +96,12 @@ fn put_row<R: Fn(u32) -> u64>(
 }
 
 // What an addition tells that was made or refused.
-fn told_by(answer: Result<(), SessionRefusal>) -> Result<Told, Memory>
+fn told_by(answer: Result<(), SessionRefusal>) -> Result<RowTold, Memory>
     ensures { result ≡ told_by answer }
 {
     match answer {
-        Ok(()) => Ok(Told::Made),
+        Ok(()) => Ok(RowTold::Made),
         Err(SessionRefusal::Memory) => Err(Memory),
-        Err(refusal) => Ok(Told::Refused(refusal)),
+        Err(refusal) => Ok(RowTold::Refused(refusal)),
     }
 }

@@ -16,7 +16,7 @@ use crate::adding::{put_alarm, put_before};
 use crate::asking::{ask_kept, begin};
 use crate::kept::{Kept, Setting};
 use crate::refusal::SessionRefusal;
-use crate::rows::{Told, carry_out_kept};
+use crate::rows::{RowTold, carry_out_kept};
 use crate::whole::is_session_book;
 use des_base::{Memory, Name};
 use des_net::Network;
@@ -145,7 +145,7 @@ impl<'a, R: Fn(u32) -> u64> Session<'a, R> {
     /// Carries out a row of a script: adds what it says, or asks what explains the log so far.
     ///
     /// After want of memory the session goes on.
-    pub fn carry_out(&mut self, row: &Row, budget: u64) -> Result<Told, Memory>
+    pub fn carry_out(&mut self, row: &Row, budget: u64) -> Result<RowTold, Memory>
         requires ranked { IsRanked R.pre R.post self.old.order }
         ensures ranked { IsRanked R.pre R.post self.new.order }
         ensures kept { KeepsSetting self.old self.new }

@@ -42,8 +42,8 @@ use Rattle.cost_least.specs.Pricing.{PosesCosts, cost_limit}
 use Rattle.cost_least.specs.Searching.{IsSolvedUnder, IsTotalOf, MayBound, asked_of}
 use Rattle.cost_least.specs.Weighed.{AreWeighed, AreWeighedParts, log_guards, assumed_at}
 use Rattle.answers.specs.declared.cheap.Priced.{Priced}
-use Rattle.cost_least.specs.declared.asking.Asked.{Asked}
-use Rattle.cost_least.specs.declared.asking.Asked.TheVariants.{Explained, Refuted, Spent}
+use Rattle.cost_least.specs.declared.asking.CostAnswer.{CostAnswer}
+use Rattle.cost_least.specs.declared.asking.CostAnswer.TheVariants.{Explained, Refuted, Spent}
 use Rattle.prop_core.proofs.Literals.{wider}
 
 -- ---- what is assumed
@@ -145,7 +145,7 @@ module _ {R : Type 0} (may : R → ℕ → Type 0) (gives : R → ℕ → ℕ �
   given_as : (other : Answer) → answer ≡ other → IsSolvedUnder (assumed_at parts.code.coded scale bound) parts.solver.assignment old new before after other
   given_as other same = subst (IsSolvedUnder (assumed_at parts.code.coded scale bound) parts.solver.assignment old new before after) same says
 
-  with_meaning : (other : Answer) (is : IsSolvedUnder (assumed_at parts.code.coded scale bound) parts.solver.assignment old new before after other) (asked : Asked) → IsTrueCostAnswer (asked_of net cost log parts) scale bound (assumed_at parts.code.coded scale bound) is.searching.since new after asked →
+  with_meaning : (other : Answer) (is : IsSolvedUnder (assumed_at parts.code.coded scale bound) parts.solver.assignment old new before after other) (asked : CostAnswer) → IsTrueCostAnswer (asked_of net cost log parts) scale bound (assumed_at parts.code.coded scale bound) is.searching.since new after asked →
       HasAskedCost (asked_of net cost log parts) parts.code.coded scale bound old new before after asked
   with_meaning other is asked means = record { searching = is.searching; means = means }
 

@@ -33,13 +33,13 @@ use Rattle.cost_least.specs.Weighed.{AreWeighedParts, KeepsCode, assumed_at}
 use Rattle.answers.specs.declared.cheap.Cheap.{Cheap}
 use Rattle.answers.specs.declared.cheap.Cheap.TheVariants.{Found, Absent, Dear, Undecided}
 use Rattle.answers.specs.declared.cheap.Priced.{Priced}
-use Rattle.cost_least.specs.declared.asking.Asked.{Asked}
-use Rattle.cost_least.specs.declared.asking.Asked.TheVariants.{Refuted, Spent}
+use Rattle.cost_least.specs.declared.asking.CostAnswer.{CostAnswer}
+use Rattle.cost_least.specs.declared.asking.CostAnswer.TheVariants.{Refuted, Spent}
 use Rattle.proof_ledger.proofs.AxiomLists.{none_learnt, marked_axioms, marked_clauses}
 
 -- ---- by the parts as they were
 
-pub asked_back : {R : Type 0} (net : Net) (cost : ℕ → ℕ) (log : Log) (old new : Parts R) (scale : Scale) (bound : Option ℕ) (book then : List BookEntry) (before after : ℕ) (given asked : Asked) → KeepsCode old new → given ≡ asked →
+pub asked_back : {R : Type 0} (net : Net) (cost : ℕ → ℕ) (log : Log) (old new : Parts R) (scale : Scale) (bound : Option ℕ) (book then : List BookEntry) (before after : ℕ) (given asked : CostAnswer) → KeepsCode old new → given ≡ asked →
     HasAskedCost (asked_of net cost log new) new.code.coded scale bound book then before after given → HasAskedCost (asked_of net cost log old) old.code.coded scale bound book then before after asked
 asked_back net cost log old new scale bound book then before after given asked keeps is has =
     subst (λ (s : CodedSteps). HasAskedCost (record { net = net; cost = cost; log = log; steps = s.steps }) old.code.coded scale bound book then before after asked) keeps.step

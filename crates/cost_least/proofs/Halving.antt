@@ -34,7 +34,7 @@ use Rattle.cost_least.specs.Searching.{HasHalved, HasFoundCost, HasRefusedCosts,
 use Rattle.cost_least.specs.Weighed.{log_guards, assumed_at}
 use Rattle.answers.specs.declared.cheap.Cheap.TheVariants.{Found, Dear, Undecided}
 use Rattle.answers.specs.declared.cheap.Priced.{Priced}
-use Rattle.cost_least.specs.declared.asking.Asked.TheVariants.{Explained, Refuted, Spent}
+use Rattle.cost_least.specs.declared.asking.CostAnswer.TheVariants.{Explained, Refuted, Spent}
 use Rattle.prop_core.proofs.Negations.{NegatesLast, split_negates}
 
 -- literals of two amounts are not the same

@@ -25,8 +25,8 @@ use Rattle.cost_least.specs.Weighed.{AreWeighed, AreWeighedParts, log_guards, as
 use Rattle.answers.specs.declared.cheap.Cheap.{Cheap}
 use Rattle.answers.specs.declared.cheap.Cheap.TheVariants.{Found, Absent, Dear, Undecided}
 use Rattle.answers.specs.declared.cheap.Priced.{Priced}
-use Rattle.cost_least.specs.declared.asking.Asked.{Asked}
-use Rattle.cost_least.specs.declared.asking.Asked.TheVariants.{Explained, Refuted, Spent}
+use Rattle.cost_least.specs.declared.asking.CostAnswer.{CostAnswer}
+use Rattle.cost_least.specs.declared.asking.CostAnswer.TheVariants.{Explained, Refuted, Spent}
 
 -- what the search has come to
 pub record HasComeTo {R C : Type 0} (may : R → ℕ → Type 0) (gives : R → ℕ → ℕ → Type 0) (answers : C → ℕ → ℕ → Type 0) (stored : C) (net : Net) (log : Log) (begun now : Parts R) (scale : Scale) (first new : List BookEntry) (budget left lo : ℕ) (best : Priced) : Type 0 where
@@ -42,21 +42,21 @@ module _ {R C : Type 0} (may : R → ℕ → Type 0) (gives : R → ℕ → ℕ 
 
   -- ---- a further question
 
-  module _ (mid now : Parts R) (old new : List BookEntry) (before after : ℕ) (bound : Option ℕ) (given : Asked) (one : GoesOnWeighed may gives begun mid scale first old budget before) (two : GoesOnWeighed may gives mid now scale old new before after)
+  module _ (mid now : Parts R) (old new : List BookEntry) (before after : ℕ) (bound : Option ℕ) (given : CostAnswer) (one : GoesOnWeighed may gives begun mid scale first old budget before) (two : GoesOnWeighed may gives mid now scale old new before after)
       (asked : (cost : ℕ → ℕ) → GivesCosts answers stored net cost → AreWeighed may gives cost mid scale old → HasAskedCost (asked_of net cost log now) now.code.coded scale bound old new before after given) where
     goes : GoesOnWeighed may gives begun now scale first new budget after
     goes = goes_both may gives begun mid now scale first old new budget before after one two
 
     -- by the parts as they were
-    pub asked_then : (other : Asked) → given ≡ other → (cost : ℕ → ℕ) → GivesCosts answers stored net cost → AreWeighed may gives cost begun scale first → HasAskedCost (asked_of net cost log begun) begun.code.coded scale bound old new before after other
+    pub asked_then : (other : CostAnswer) → given ≡ other → (cost : ℕ → ℕ) → GivesCosts answers stored net cost → AreWeighed may gives cost begun scale first → HasAskedCost (asked_of net cost log begun) begun.code.coded scale bound old new before after other
     asked_then other same cost answered weighed = asked_back net cost log begun now scale bound old new before after given other goes.kept same (asked cost answered (one.still cost weighed))
 
-  module _ (mid now : Parts R) (old new : List BookEntry) (before after lo : ℕ) (best : Priced) (b : ℕ) (given : Asked) (come : HasComeTo may gives answers stored net log begun mid scale first old budget before lo best) (two : GoesOnWeighed may gives mid now scale old new before after)
+  module _ (mid now : Parts R) (old new : List BookEntry) (before after lo : ℕ) (best : Priced) (b : ℕ) (given : CostAnswer) (come : HasComeTo may gives answers stored net log begun mid scale first old budget before lo best) (two : GoesOnWeighed may gives mid now scale old new before after)
       (asked : (cost : ℕ → ℕ) → GivesCosts answers stored net cost → AreWeighed may gives cost mid scale old → HasAskedCost (asked_of net cost log now) now.code.coded scale (Some b) old new before after given) where
     goes_now : GoesOnWeighed may gives begun now scale first new budget after
     goes_now = goes_both may gives begun mid now scale first old new budget before after come.goes two
 
-    then : (other : Asked) → given ≡ other → (cost : ℕ → ℕ) → GivesCosts answers stored net cost → AreWeighed may gives cost begun scale first → HasAskedCost (asked_of net cost log begun) begun.code.coded scale (Some b) old new before after other
+    then : (other : CostAnswer) → given ≡ other → (cost : ℕ → ℕ) → GivesCosts answers stored net cost → AreWeighed may gives cost begun scale first → HasAskedCost (asked_of net cost log begun) begun.code.coded scale (Some b) old new before after other
     then other same = asked_then mid now old new before after (Some b) given come.goes two asked other same
 
     pub come_with_better : (better : Priced) → given ≡ Explained better → HasComeTo may gives answers stored net log begun now scale first new budget after lo better
@@ -117,7 +117,7 @@ module _ {R C : Type 0} (may : R → ℕ → Type 0) (gives : R → ℕ → ℕ 
         (halved_quits (asked_of net cost log begun) begun.code.coded scale first old new budget before lo best (come.come cost answered weighed) quit (tells_few now new after goes cost weighed))
 
     -- where the budget is spent
-    pub ends_undecided : (mid now : Parts R) (old new : List BookEntry) (before after lo : ℕ) (best : Priced) (b : ℕ) (given : Asked) (come : HasComeTo may gives answers stored net log begun mid scale first old budget before lo best) → GoesOnWeighed may gives mid now scale old new before after →
+    pub ends_undecided : (mid now : Parts R) (old new : List BookEntry) (before after lo : ℕ) (best : Priced) (b : ℕ) (given : CostAnswer) (come : HasComeTo may gives answers stored net log begun mid scale first old budget before lo best) → GoesOnWeighed may gives mid now scale old new before after →
         ((cost : ℕ → ℕ) → GivesCosts answers stored net cost → AreWeighed may gives cost mid scale old → HasAskedCost (asked_of net cost log now) now.code.coded scale (Some b) old new before after given) → given ≡ Spent → IsValidBook new → lo < min best.cost (1 + MOST_COST) → IsBetween lo best.cost b →
         (cost : ℕ → ℕ) → GivesCosts answers stored net cost → AreWeighed may gives cost begun scale first → HasFoundCost (asked_of net cost log now) budget first new (Undecided lo (Some best))
     ends_undecided mid now old new before after lo best b given come two asked same book less between cost answered weighed =
@@ -129,9 +129,9 @@ module _ {R C : Type 0} (may : R → ℕ → Type 0) (gives : R → ℕ → ℕ 
 
     -- ---- without a bound
 
-    module _ (now : Parts R) (new : List BookEntry) (left : ℕ) (given : Asked) (goes : GoesOnWeighed may gives begun now scale first new budget left)
+    module _ (now : Parts R) (new : List BookEntry) (left : ℕ) (given : CostAnswer) (goes : GoesOnWeighed may gives begun now scale first new budget left)
         (asked : (cost : ℕ → ℕ) → GivesCosts answers stored net cost → AreWeighed may gives cost begun scale first → HasAskedCost (asked_of net cost log now) now.code.coded scale None first new budget left given) (cost : ℕ → ℕ) (answered : GivesCosts answers stored net cost) (weighed : AreWeighed may gives cost begun scale first) where
-      first_asked : (other : Asked) → given ≡ other → HasAskedCost (asked_of net cost log begun) begun.code.coded scale None first new budget left other
+      first_asked : (other : CostAnswer) → given ≡ other → HasAskedCost (asked_of net cost log begun) begun.code.coded scale None first new budget left other
       first_asked other same = asked_back net cost log begun now scale None first new budget left given other goes.kept same (asked cost answered weighed)
 
       pub ends_absent : given ≡ Refuted → HasFoundCost (asked_of net cost log now) budget first new Absent

@@ -13,8 +13,8 @@ use Rattle.weight_counter.specs.declared.scale.Scale.{Scale}
 use Rattle.cost_least.specs.Answers.{CostAsked, IsPriced, Needs}
 use Rattle.cost_least.specs.Weighed.{assumed_at}
 use Rattle.answers.specs.declared.cheap.Priced.{Priced}
-use Rattle.cost_least.specs.declared.asking.Asked.{Asked}
-use Rattle.cost_least.specs.declared.asking.Asked.TheVariants.{Explained, Refuted, Spent}
+use Rattle.cost_least.specs.declared.asking.CostAnswer.{CostAnswer}
+use Rattle.cost_least.specs.declared.asking.CostAnswer.TheVariants.{Explained, Refuted, Spent}
 
 -- without a bound nothing explains the log; with one all that does has a greater total
 abbrev pub RulesOut : CostAsked → Option ℕ → Type 0
@@ -31,7 +31,7 @@ pub record EndsByFinal (assumed : List Lit) (since : List BookEntry) : Type 0 wh
   pub negates : NegatesOnly assumed clause
 
 -- where a run is given, it is one that explains, with its total
-abbrev pub IsGiven : CostAsked → Asked → Type 0
+abbrev pub IsGiven : CostAsked → CostAnswer → Type 0
 IsGiven q (Explained priced) = IsPriced q priced
 IsGiven q Refuted = ⊤
 IsGiven q Spent = ⊤
@@ -55,12 +55,12 @@ pub record HasNothingLeft (assumed : List Lit) (since book : List BookEntry) (bu
   pub learnt : AreLearnt since
 
 -- what an answer means
-abbrev pub IsTrueCostAnswer : CostAsked → Scale → Option ℕ → List Lit → List BookEntry → List BookEntry → ℕ → Asked → Type 0
+abbrev pub IsTrueCostAnswer : CostAsked → Scale → Option ℕ → List Lit → List BookEntry → List BookEntry → ℕ → CostAnswer → Type 0
 IsTrueCostAnswer q scale bound assumed since book budget (Explained priced) = IsFoundWithin q scale bound since priced
 IsTrueCostAnswer q scale bound assumed since book budget Refuted = IsRuledOut q bound assumed since
 IsTrueCostAnswer q scale bound assumed since book budget Spent = HasNothingLeft assumed since book budget
 
 -- Derived entries alone were put, each learnt clause was paid for and fresh, and the answer means this.
-pub record HasAskedCost (q : CostAsked) (code : CodedLog) (scale : Scale) (bound : Option ℕ) (old new : List BookEntry) (budget_old budget_new : ℕ) (asked : Asked) : Type 0 where
+pub record HasAskedCost (q : CostAsked) (code : CodedLog) (scale : Scale) (bound : Option ℕ) (old new : List BookEntry) (budget_old budget_new : ℕ) (asked : CostAnswer) : Type 0 where
   pub searching : IsSearching old new budget_old budget_new
   pub means : IsTrueCostAnswer q scale bound (assumed_at code scale bound) searching.since new budget_new asked

@@ -28,7 +28,7 @@ use weight_counter::Scale;
 
 // What a question comes to.
 #[derive(Drop)]
-pub enum Asked {
+pub enum CostAnswer {
     Explained(Priced),
     Refuted,
     Spent,
@@ -42,7 +42,7 @@ pub fn ask<C: Fn(u32) -> u32, R: Fn(u32) -> u64>(
     parts: &mut Parts<R>,
     book: &mut Ledger,
     budget: &mut u64,
-) -> Result<Asked, Memory>
+) -> Result<CostAnswer, Memory>
     requires cost { IsCost C.pre C.post costs.now.cost costs.now.net }
     requires net { costs.now.net ≡ question.net.now }
     requires belong { BelongTo question.net.now question.log.now parts.old }
@@ -60,9 +60,9 @@ pub fn ask<C: Fn(u32) -> u32, R: Fn(u32) -> u64>(
     has_guards(&parts.code);
     book.entries();
     match answer {
-        Answer::Unsat(_) => Ok(Asked::Refuted),
-        Answer::Spent => Ok(Asked::Spent),
-        Answer::Sat => Ok(Asked::Explained(found_run(question, costs, parts)?)),
+        Answer::Unsat(_) => Ok(CostAnswer::Refuted),
+        Answer::Spent => Ok(CostAnswer::Spent),
+        Answer::Sat => Ok(CostAnswer::Explained(found_run(question, costs, parts)?)),
     }
 }
 

@@ -11,7 +11,7 @@ ghost use Rattle.cost_least.specs.Costs.{cost_size};
 ghost use Rattle.cost_least.specs.Searching.{AreAsked, GoesOnWeighed, HasAnsweredCosts, asked_of, HasFoundCost, HasRefusedCosts, LeavesUnpriced};
 ghost use Rattle.cost_least.specs.Weighed.{AreWeighed, KeepsCode};
 
-use crate::asking::{Asked, ask};
+use crate::asking::{CostAnswer, ask};
 use crate::question::{CostQuestion, has_guards};
 use crate::weighing::weigh;
 use answers::{Cheap, Priced};
@@ -83,9 +83,9 @@ fn search<C: Fn(u32) -> u32, R: Fn(u32) -> u64>(
     question.log.is_whole();
     has_guards(&parts.code);
     match ask(question, costs, None, parts, book, budget)? {
-        Asked::Refuted => Ok(Cheap::Absent),
-        Asked::Spent => Ok(Cheap::Undecided { lo: 0, best: None }),
-        Asked::Explained(known) => halve(question, costs, known, parts, book, budget),
+        CostAnswer::Refuted => Ok(Cheap::Absent),
+        CostAnswer::Spent => Ok(Cheap::Undecided { lo: 0, best: None }),
+        CostAnswer::Explained(known) => halve(question, costs, known, parts, book, budget),
     }
 }
 
@@ -119,9 +119,9 @@ fn halve<C: Fn(u32) -> u32, R: Fn(u32) -> u64>(
         let asked = ask(question, costs, Some(b), parts, book, budget)?;
         book.entries();
         match asked {
-            Asked::Explained(better) => best = better,
-            Asked::Refuted => lo = b + 1,
-            Asked::Spent => {
+            CostAnswer::Explained(better) => best = better,
+            CostAnswer::Refuted => lo = b + 1,
+            CostAnswer::Spent => {
                 return Ok(Cheap::Undecided {
                     lo,
                     best: Some(best),

@@ -6,8 +6,8 @@ use Rattle.std.proofs.lemmas.Grind.{flat_map-append}
 use Rattle.alarm_session.proofs.Rowing.{carried_out_more, nothing_carried_out}
 use Rattle.alarm_session.specs.Rows.{AreRowsTold, IsLeftUndone, IsRowTold, after_row}
 use Rattle.alarm_session.specs.Session.{IsSessionBook, Stage, first_stage}
-use Rattle.alarm_session.specs.declared.rows.Told.{Told}
-use Rattle.alarm_session.specs.declared.rows.Told.TheVariants.{Made, Refused, Answered}
+use Rattle.alarm_session.specs.declared.rows.RowTold.{RowTold}
+use Rattle.alarm_session.specs.declared.rows.RowTold.TheVariants.{Made, Refused, Answered}
 use Rattle.des_net.specs.Building.{IsDraft}
 use Rattle.des_net.specs.Network.{Net, IsNetwork}
 use Rattle.least_faults.proofs.Deciding.{undecided_is_small}
@@ -35,12 +35,12 @@ pub same_setting : (P : Net → ℕ → Type 0) (other net : Net) (time n : ℕ)
 same_setting P other net time n same same_time h = subst (λ (k : ℕ). P net k) same_time (subst (λ (m : Net). P m time) same h)
 
 module _ (net : Net) (n budget : ℕ) (old : Stage) (row : Row) (new : Stage) where
-  pub row_known : (told : Told) → IsRowTold net n budget old row new told → TellsKnown net told
+  pub row_known : (told : RowTold) → IsRowTold net n budget old row new told → TellsKnown net told
   row_known Made is = tt
   row_known (Refused refusal) is = tt
   row_known (Answered found) is = let answered = is.tells.told.answered in known is.tells.told.meanings _ answered.since net old.log n budget found answered.found
 
-  row_replays : (told : Told) → IsNetwork net → IsDraft net → IsLog new.log → n ≤ 1000 → IsRowTold net n budget old row new told → TellsReplaying net old.log n told
+  row_replays : (told : RowTold) → IsNetwork net → IsDraft net → IsLog new.log → n ≤ 1000 → IsRowTold net n budget old row new told → TellsReplaying net old.log n told
   row_replays Made network whole log_whole few told = tt
   row_replays (Refused refusal) network whole log_whole few told = tt
   row_replays (Answered found) network whole log_whole few told =
@@ -48,14 +48,14 @@ module _ (net : Net) (n budget : ℕ) (old : Stage) (row : Row) (new : Stage) wh
       let same : new.log ≡ old.log = told.log ∙ ap (after_row net n old.log) told.tells.question in
       run_replays told.tells.told.meanings _ answered.since net old.log n budget found n network whole (subst IsLog same log_whole) few refl answered.found
 
-  pub carried : (told : Told) → IsNetwork net → IsDraft net → IsLog new.log → n ≤ 1000 → IsRowTold net n budget old row new told → IsCarriedOut net n budget old row new told
+  pub carried : (told : RowTold) → IsNetwork net → IsDraft net → IsLog new.log → n ≤ 1000 → IsRowTold net n budget old row new told → IsCarriedOut net n budget old row new told
   carried told network whole log_whole few holds = record { holds = holds; replays = row_replays told network whole log_whole few holds }
 
-  pub row_replied : (told : Told) (reply : List ℕ) → IsCarriedOut net n budget old row new told → replies_to net n told ≡ reply ∷ [] → IsRowReplied net n budget old row new reply
+  pub row_replied : (told : RowTold) (reply : List ℕ) → IsCarriedOut net n budget old row new told → replies_to net n told ≡ reply ∷ [] → IsRowReplied net n budget old row new reply
   row_replied told reply carried only = record { told = told; holds = carried.holds; replays = carried.replays; is = only }
 
   -- what is no addition that was made has a reply
-  pub has_reply : (told : Told) → told ≢ Made → (reply : List ℕ) × (replies_to net n told ≡ reply ∷ [])
+  pub has_reply : (told : RowTold) → told ≢ Made → (reply : List ℕ) × (replies_to net n told ≡ reply ∷ [])
   has_reply Made other = absurd (other refl)
   has_reply (Refused refusal) other = (_, refl)
   has_reply (Answered found) other = (_, refl)
@@ -71,32 +71,32 @@ module _ (net : Net) (n budget : ℕ) where
       let small = undecided_is_small names built net alarms n budget lo best before after answered in
       omega (arith, small, enough)
 
-  row_decided : (old : Stage) (row : Row) (new : Stage) (told : Told) → IsRowTold net n budget old row new told → TellsDecided net old.log n budget told
+  row_decided : (old : Stage) (row : Row) (new : Stage) (told : RowTold) → IsRowTold net n budget old row new told → TellsDecided net old.log n budget told
   row_decided old row new Made is = tt
   row_decided old row new (Refused refusal) is = tt
   row_decided old row new (Answered found) is = found_decided found is.tells.told.meanings old.built old.log old.book new.book is.tells.told.answered
 
-  all_decided : (old : Stage) (rows : List Row) (new : Stage) (told : List Told) → AreRowsTold net n budget old rows new told → AreDecided net n budget old.log rows told
+  all_decided : (old : Stage) (rows : List Row) (new : Stage) (told : List RowTold) → AreRowsTold net n budget old rows new told → AreDecided net n budget old.log rows told
   all_decided old [] new told are = tt
   all_decided old (row ∷ rows) new told are =
-      subst (λ (ts : List Told). AreDecided net n budget old.log (row ∷ rows) ts) (sym are.5)
+      subst (λ (ts : List RowTold). AreDecided net n budget old.log (row ∷ rows) ts) (sym are.5)
       (row_decided old row are.0 are.1 are.3, subst (λ (a : Log). AreDecided net n budget a rows are.2) are.3.log (all_decided are.0 rows new are.2 are.4))
 
 -- ---- what some rows told, and one more
 
 module _ (net : Net) (n budget : ℕ) where
-  replay_more : (old : Stage) (rows : List Row) (row : Row) (mid : Stage) (told : List Told) (here : Told) → AreRowsTold net n budget old rows mid told → RunsReplay net n old.log rows told
+  replay_more : (old : Stage) (rows : List Row) (row : Row) (mid : Stage) (told : List RowTold) (here : RowTold) → AreRowsTold net n budget old rows mid told → RunsReplay net n old.log rows told
       → TellsReplaying net mid.log n here → RunsReplay net n old.log (rows ++ row ∷ []) (told ++ here ∷ [])
   replay_more old [] row mid told here are replays last =
-      subst (λ (ts : List Told). RunsReplay net n old.log (row ∷ []) (ts ++ here ∷ [])) (sym are.1) (subst (λ (s : Stage). TellsReplaying net s.log n here) are.0 last, tt)
+      subst (λ (ts : List RowTold). RunsReplay net n old.log (row ∷ []) (ts ++ here ∷ [])) (sym are.1) (subst (λ (s : Stage). TellsReplaying net s.log n here) are.0 last, tt)
   replay_more old (first ∷ rows) row mid told here are replays last =
-      let split = subst (λ (ts : List Told). RunsReplay net n old.log (first ∷ rows) ts) are.5 replays in
+      let split = subst (λ (ts : List RowTold). RunsReplay net n old.log (first ∷ rows) ts) are.5 replays in
       let further = replay_more are.0 rows row mid are.2 here are.4 (subst (λ (a : Log). RunsReplay net n a rows are.2) (sym are.3.log) split.1) last in
-      subst (λ (ts : List Told). RunsReplay net n old.log (first ∷ rows ++ row ∷ []) (ts ++ here ∷ [])) (sym are.5)
+      subst (λ (ts : List RowTold). RunsReplay net n old.log (first ∷ rows ++ row ∷ []) (ts ++ here ∷ [])) (sym are.5)
       (split.0, subst (λ (a : Log). RunsReplay net n a (rows ++ row ∷ []) (are.2 ++ here ∷ [])) are.3.log further)
 
   -- with the replies to one more row
-  pub replied_more : (rows : List Row) (row : Row) (mid new : Stage) (texts : List (List ℕ)) (here : Told) → HasReplies net n budget rows mid texts → IsCarriedOut net n budget mid row new here
+  pub replied_more : (rows : List Row) (row : Row) (mid new : Stage) (texts : List (List ℕ)) (here : RowTold) → HasReplies net n budget rows mid texts → IsCarriedOut net n budget mid row new here
       → HasReplies net n budget (rows ++ row ∷ []) new (texts ++ replies_to net n here)
   replied_more rows row mid new texts here replied is = record {
     told = replied.told ++ here ∷ [];
@@ -149,7 +149,7 @@ pub row_undone : {S V E : Type 0} (s t : S) (plan : S → Plan) (stage : S → S
 row_undone s t plan stage row same (Ok text) undone = tt
 row_undone s t plan stage row same (Err e) undone = record { same = same; untold = inr undone }
 
-module _ {S : Type 0} (s t : S) (plan : S → Plan) (stage : S → Stage) (row : Row) (same : plan t ≡ plan s) (told : Told) (carried : IsCarriedOut (plan s).net (plan s).limits.steps (plan s).limits.budget (stage s) row (stage t) told) where
+module _ {S : Type 0} (s t : S) (plan : S → Plan) (stage : S → Stage) (row : Row) (same : plan t ≡ plan s) (told : RowTold) (carried : IsCarriedOut (plan s).net (plan s).limits.steps (plan s).limits.budget (stage s) row (stage t) told) where
   -- with its reply, where it has one
   pub row_tells : {V E : Type 0} (text_of : V → List ℕ) (r : Result (Option V) E) → IfOk r (λ text. replies_to (plan s).net (plan s).limits.steps told ≡ option_to_list (option_map text_of text))
       → IfOk r (λ text. RowTells plan stage s row t (option_map text_of text))

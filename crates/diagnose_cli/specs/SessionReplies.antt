@@ -3,8 +3,8 @@ use Rattle.std.specs.Prelude.{◌≡◌, ◌⊎◌, ℕ, ⊤, List, [], ◌∷�
 use Rattle.alarm_session.specs.Rows.{HasCarriedOut, IsLeftUndone, IsRowTold, after_row}
 use Rattle.alarm_session.specs.Session.{Stage}
 use Rattle.alarm_session.specs.Refusals.{refusal_number}
-use Rattle.alarm_session.specs.declared.rows.Told.{Told}
-use Rattle.alarm_session.specs.declared.rows.Told.TheVariants.{Made, Refused, Answered}
+use Rattle.alarm_session.specs.declared.rows.RowTold.{RowTold}
+use Rattle.alarm_session.specs.declared.rows.RowTold.TheVariants.{Made, Refused, Answered}
 use Rattle.des_net.specs.Network.{Net}
 use Rattle.answers.specs.declared.found.Found.{Found}
 use Rattle.answers.specs.declared.found.Found.TheVariants.{Undecided}
@@ -17,19 +17,19 @@ use Rattle.endings.specs.Transcripts.{End, said, cut, broken, Transcript}
 use Rattle.diagnose_cli.specs.Replies.{IsEnough, RunReplays}
 
 -- the replies to a row that told this: none where an addition was made
-abbrev pub replies_to : Net → ℕ → Told → List (List ℕ)
+abbrev pub replies_to : Net → ℕ → RowTold → List (List ℕ)
 replies_to net n Made = []
 replies_to net n (Refused refusal) = text_of_refused (refusal_number refusal) ∷ []
 replies_to net n (Answered found) = text_of_found net n found ∷ []
 
 -- a run that a row told replays against the log
-abbrev pub TellsReplaying : Net → AlarmLog → ℕ → Told → Type 0
+abbrev pub TellsReplaying : Net → AlarmLog → ℕ → RowTold → Type 0
 TellsReplaying net alarms n Made = ⊤
 TellsReplaying net alarms n (Refused refusal) = ⊤
 TellsReplaying net alarms n (Answered found) = RunReplays net alarms n found
 
 -- each run that rows told replays against the log of the rows before it
-abbrev pub RunsReplay : Net → ℕ → AlarmLog → List Row → List Told → Type 0
+abbrev pub RunsReplay : Net → ℕ → AlarmLog → List Row → List RowTold → Type 0
 RunsReplay net n alarms (row ∷ rows) (told ∷ others) = TellsReplaying net alarms n told × RunsReplay net n (after_row net n alarms row) rows others
 RunsReplay net n alarms _ _ = ⊤
 
@@ -39,19 +39,19 @@ IsDecided (Undecided lo best) = ⊥
 IsDecided _ = ⊤
 
 -- a budget of 3 to the number of variables that network, log and n allow decides what a row asks
-abbrev pub TellsDecided : Net → AlarmLog → ℕ → ℕ → Told → Type 0
+abbrev pub TellsDecided : Net → AlarmLog → ℕ → ℕ → RowTold → Type 0
 TellsDecided net alarms n budget Made = ⊤
 TellsDecided net alarms n budget (Refused refusal) = ⊤
 TellsDecided net alarms n budget (Answered found) = IsEnough budget net alarms n → IsDecided found
 
 -- so it is with each row and the log of the rows before it
-abbrev pub AreDecided : Net → ℕ → ℕ → AlarmLog → List Row → List Told → Type 0
+abbrev pub AreDecided : Net → ℕ → ℕ → AlarmLog → List Row → List RowTold → Type 0
 AreDecided net n budget alarms (row ∷ rows) (told ∷ others) = TellsDecided net alarms n budget told × AreDecided net n budget (after_row net n alarms row) rows others
 AreDecided net n budget alarms _ _ = ⊤
 
 -- A session carried out these rows one after another, and came so far. These are their replies, one after another.
 pub record HasReplies (net : Net) (n budget : ℕ) (rows : List Row) (left : Stage) (texts : List (List ℕ)) : Type 0 where
-  pub told : List Told
+  pub told : List RowTold
   pub carried : HasCarriedOut net n budget rows left told
   pub replays : RunsReplay net n no_log rows told
   pub decided : AreDecided net n budget no_log rows told
@@ -59,7 +59,7 @@ pub record HasReplies (net : Net) (n budget : ℕ) (rows : List Row) (left : Sta
 
 -- The row was carried out, a run that it told replays, and this is its reply.
 pub record IsRowReplied (net : Net) (n budget : ℕ) (old : Stage) (row : Row) (new : Stage) (reply : List ℕ) : Type 0 where
-  pub told : Told
+  pub told : RowTold
   pub holds : IsRowTold net n budget old row new told
   pub replays : TellsReplaying net old.log n told
   pub is : replies_to net n told ≡ reply ∷ []

@@ -3,8 +3,8 @@ use Rattle.std.specs.Prelude.{◌≡◌, ◌≤◌, ⊤, ℕ, List, Option, Resu
 use Rattle.std.specs.Option.{option_to_list}
 use Rattle.alarm_session.specs.Rows.{IsRowTold}
 use Rattle.alarm_session.specs.Session.{SessionState, Stage}
-use Rattle.alarm_session.specs.declared.rows.Told.{Told}
-use Rattle.alarm_session.specs.declared.rows.Told.TheVariants.{Made, Refused, Answered}
+use Rattle.alarm_session.specs.declared.rows.RowTold.{RowTold}
+use Rattle.alarm_session.specs.declared.rows.RowTold.TheVariants.{Made, Refused, Answered}
 use Rattle.des_base.specs.declared.TheConstants.{MOST_STEPS}
 use Rattle.des_net.specs.Network.{Net}
 use Rattle.log_csv.specs.declared.row.Row.{Row}
@@ -20,20 +20,20 @@ use Rattle.endings.specs.Transcripts.{Ending}
 -- ---- one row
 
 -- the events of a run that a row told are the network's
-abbrev pub TellsKnown : Net → Told → Type 0
+abbrev pub TellsKnown : Net → RowTold → Type 0
 TellsKnown net Made = ⊤
 TellsKnown net (Refused refusal) = ⊤
 TellsKnown net (Answered found) = EventsKnown net found
 
 -- The row was carried out, and what it told replays.
-pub record IsCarriedOut (net : Net) (n budget : ℕ) (old : Stage) (row : Row) (new : Stage) (told : Told) : Type 0 where
+pub record IsCarriedOut (net : Net) (n budget : ℕ) (old : Stage) (row : Row) (new : Stage) (told : RowTold) : Type 0 where
   pub holds : IsRowTold net n budget old row new told
   pub replays : TellsReplaying net old.log n told
 
 -- From one moment to another of what has a plan and a stage: the row was carried out, and this is its reply, where it has one. The plan stays.
 pub record RowTells {S : Type 0} (plan : S → Plan) (stage : S → Stage) (s : S) (row : Row) (t : S) (text : Option (List ℕ)) : Type 0 where
   pub same : plan t ≡ plan s
-  pub told : Told
+  pub told : RowTold
   pub carried : IsCarriedOut (plan s).net (plan s).limits.steps (plan s).limits.budget (stage s) row (stage t) told
   pub is : replies_to (plan s).net (plan s).limits.steps told ≡ option_to_list text
 

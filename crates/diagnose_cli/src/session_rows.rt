@@ -1,13 +1,13 @@
 // The rows of a script, each of which a session carries out and tells of.
 ghost use Rattle.std.specs.Prelude.{◌≡◌, ◌≢◌, IfOk, OnErr, option_map};
 ghost use Rattle.std.specs.Option.{option_to_list};
-ghost use Rattle.alarm_session.specs.declared.rows.Told.TheVariants.{Made as NothingTold};
+ghost use Rattle.alarm_session.specs.declared.rows.RowTold.TheVariants.{Made as NothingTold};
 ghost use Rattle.diagnose_cli.specs.SessionReplies.{replies_to};
 ghost use Rattle.diagnose_cli.specs.Sessions.{IsOfPlan, RowIsUntold, RowTells, TellsKnown};
 ghost use Rattle.report.specs.Replies.{text_of_refused};
 
 use crate::command::Limits;
-use alarm_session::{Session, Told};
+use alarm_session::{RowTold, Session};
 use des_base::Memory;
 use des_net::Network;
 use log_csv::{Row, Script};
@@ -51,16 +51,16 @@ fn reply_to(
     alloc: Global,
     net: &Network,
     steps: u32,
-    told: &Told,
+    told: &RowTold,
 ) -> Result<Option<Vec<u8>>, Memory>
     requires { TellsKnown net.now told.now }
     ensures reply { IfOk result (λ reply. replies_to net.now steps told.now ≡ option_to_list (option_map (λ text. text.items) reply)) }
     ensures has_one { OnErr result (told.now ≢ NothingTold) }
 {
     match told {
-        Told::Made => Ok(None),
-        Told::Refused(refusal) => Ok(Some(refusal_text(alloc, refusal.number())?)),
-        Told::Answered(found) => Ok(Some(found_text(alloc, net, steps, found)?)),
+        RowTold::Made => Ok(None),
+        RowTold::Refused(refusal) => Ok(Some(refusal_text(alloc, refusal.number())?)),
+        RowTold::Answered(found) => Ok(Some(found_text(alloc, net, steps, found)?)),
     }
 }
 

@@ -15,7 +15,7 @@ use Rattle.fault_verdicts.specs.Judging.{KeepsStepsAndLog}
 use Rattle.fault_verdicts.specs.Verdicts.{IsPossible}
 use Rattle.answers.specs.declared.verdict.Verdict.{Verdict}
 use Rattle.answers.specs.declared.verdict.Verdict.TheVariants.{Possible}
-use Rattle.fault_verdicts.specs.declared.kept.Kept.{Kept}
+use Rattle.fault_verdicts.specs.declared.kept.Carried.{Carried}
 use Rattle.answers.specs.declared.found.Best.{Best}
 use Rattle.log_clauses.proofs.Lists.{all_at}
 use Rattle.log_order.specs.Log.{Log}
@@ -47,7 +47,7 @@ tests_differ false true first has e told is apart = ((λ in' there. let no : fal
 tests_differ false false first has e told is apart = let no : false ≡ true = apart in cc
 
 -- the copy of one of the others that differs from the known run shows that the event is possible
-pub shown_by : {R : Type 0} (net : Net) (log : Log) (best : Best) (kept : Kept R) (others : List (List RunStep)) (e : ℕ) (other copy : List RunStep) → IsJudgeOf net log best kept → others ≡ kept.others.items → Contains others other → DiffersIn e best.run other → copy ≡ other →
+pub shown_by : {R : Type 0} (net : Net) (log : Log) (best : Best) (kept : Carried R) (others : List (List RunStep)) (e : ℕ) (other copy : List RunStep) → IsJudgeOf net log best kept → others ≡ kept.others.items → Contains others other → DiffersIn e best.run other → copy ≡ other →
     IsPossibleFound net log kept.parts.step.steps best.faults e best.run copy
 shown_by net log best kept others e other copy is same in' differs copied =
     let found = all_at (IsBestRun net log kept.parts.step.steps best.faults) kept.others.items is.others other (subst (λ xs. Contains xs other) same in') in
@@ -63,7 +63,7 @@ others_best P found old new (inl same) best all = subst (AllByRecursion P) (sym 
 others_best P found old new (inr more) best all = subst (AllByRecursion P) (sym more.2) (all_append P old (more.0 ∷ []) all (best more.0 more.1, tt))
 
 -- with further columns and a variable, and the others that came, all is as it was
-judge_goes_on : {R : Type 0} (net : Net) (log : Log) (best : Best) (old new : Kept R) → KeepsStepsAndLog 1 old.parts new.parts → IsJudgeOf net log best old → AllByRecursion (IsBestRun net log new.parts.step.steps best.faults) new.others.items → IsJudgeOf net log best new
+judge_goes_on : {R : Type 0} (net : Net) (log : Log) (best : Best) (old new : Carried R) → KeepsStepsAndLog 1 old.parts new.parts → IsJudgeOf net log best old → AllByRecursion (IsBestRun net log new.parts.step.steps best.faults) new.others.items → IsJudgeOf net log best new
 judge_goes_on net log best old new goes is others = record {
   belong = belong_on net log 1 old.parts new.parts goes is.belong;
   steps = subst (λ (s : CodedSteps). s.steps ≤ MOST_STEPS) (sym goes.step) is.steps;
@@ -73,14 +73,14 @@ judge_goes_on net log best old new goes is others = record {
 }
 
 -- where no other comes
-pub judge_stays : {R : Type 0} (net : Net) (log : Log) (best : Best) (old new : Kept R) → KeepsStepsAndLog 1 old.parts new.parts → new.others.items ≡ old.others.items → IsJudgeOf net log best old → IsJudgeOf net log best new
+pub judge_stays : {R : Type 0} (net : Net) (log : Log) (best : Best) (old new : Carried R) → KeepsStepsAndLog 1 old.parts new.parts → new.others.items ≡ old.others.items → IsJudgeOf net log best old → IsJudgeOf net log best new
 judge_stays net log best old new goes same is =
     judge_goes_on net log best old new goes is
     (subst (AllByRecursion (IsBestRun net log new.parts.step.steps best.faults)) (sym same)
     (subst (λ (s : CodedSteps). AllByRecursion (IsBestRun net log s.steps best.faults) old.others.items) (sym goes.step) is.others))
 
 -- and where the run of a verdict may come
-pub judge_after : {R : Type 0} (net : Net) (log : Log) (best : Best) (e budget : ℕ) (old new : Kept R) (before after : List BookEntry) (found : Verdict) → KeepsStepsAndLog 1 old.parts new.parts → IsJudgeOf net log best old → AddsPossible found old.others.items new.others.items →
+pub judge_after : {R : Type 0} (net : Net) (log : Log) (best : Best) (e budget : ℕ) (old new : Carried R) (before after : List BookEntry) (found : Verdict) → KeepsStepsAndLog 1 old.parts new.parts → IsJudgeOf net log best old → AddsPossible found old.others.items new.others.items →
     IsJudged net log new.parts.step.steps best.faults e budget best.run before after found → IsJudgeOf net log best new
 judge_after net log best e budget old new before after found goes is adds judged =
     judge_goes_on net log best old new goes is
@@ -88,21 +88,21 @@ judge_after net log best e budget old new before after found goes is adds judged
     (λ run same. found_is_best net log new.parts.step.steps best.faults e budget best.run before after found run judged same)
     (subst (λ (s : CodedSteps). AllByRecursion (IsBestRun net log s.steps best.faults) old.others.items) (sym goes.step) is.others))
 
-pub steps_kept : {R : Type 0} (old new : Kept R) → KeepsStepsAndLog 1 old.parts new.parts → KeepsSteps old new
+pub steps_kept : {R : Type 0} (old new : Carried R) → KeepsStepsAndLog 1 old.parts new.parts → KeepsSteps old new
 steps_kept old new goes = record { steps = ap (λ (s : CodedSteps). s.steps) goes.step; rank = goes.rank }
 
 -- what was asked, by the steps as they were before
-pub asked_of : {R : Type 0} (net : Net) (log : Log) (best : Best) (e budget : ℕ) (old new : Kept R) (before after : List BookEntry) (found : Verdict) → KeepsStepsAndLog 1 old.parts new.parts → IsJudged net log new.parts.step.steps best.faults e budget best.run before after found →
+pub asked_of : {R : Type 0} (net : Net) (log : Log) (best : Best) (e budget : ℕ) (old new : Carried R) (before after : List BookEntry) (found : Verdict) → KeepsStepsAndLog 1 old.parts new.parts → IsJudged net log new.parts.step.steps best.faults e budget best.run before after found →
     IsEventJudged (matter_of net log best budget old) e before after found
 asked_of net log best e budget old new before after found goes judged = inl (subst (λ (s : CodedSteps). IsJudged net log s.steps best.faults e budget best.run before after found) goes.step judged)
 
 -- out of memory the question is open at most
-pub unasked_of : {R : Type 0} (net : Net) (log : Log) (best : Best) (e budget : ℕ) (old new : Kept R) (before after : List BookEntry) → KeepsStepsAndLog 1 old.parts new.parts → IsOpenAtMost net log new.parts.step.steps best.faults e budget best.run before after →
+pub unasked_of : {R : Type 0} (net : Net) (log : Log) (best : Best) (e budget : ℕ) (old new : Carried R) (before after : List BookEntry) → KeepsStepsAndLog 1 old.parts new.parts → IsOpenAtMost net log new.parts.step.steps best.faults e budget best.run before after →
     IsLeftUnjudged (matter_of net log best budget old) e before after
 unasked_of net log best e budget old new before after goes unclosed = inl (subst (λ (s : CodedSteps). IsOpenAtMost net log s.steps best.faults e budget best.run before after) goes.step unclosed)
 
 -- the verdict was given, and couldn't be kept
-pub unkept_of : {R : Type 0} (net : Net) (log : Log) (best : Best) (e budget : ℕ) (old new : Kept R) (before after : List BookEntry) (found : Verdict) → KeepsStepsAndLog 1 old.parts new.parts → IsJudged net log new.parts.step.steps best.faults e budget best.run before after found →
+pub unkept_of : {R : Type 0} (net : Net) (log : Log) (best : Best) (e budget : ℕ) (old new : Carried R) (before after : List BookEntry) (found : Verdict) → KeepsStepsAndLog 1 old.parts new.parts → IsJudged net log new.parts.step.steps best.faults e budget best.run before after found →
     IsLeftUnjudged (matter_of net log best budget old) e before after
 unkept_of net log best e budget old new before after found goes judged = inr (found, subst (λ (s : CodedSteps). IsJudged net log s.steps best.faults e budget best.run before after found) goes.step judged)
 

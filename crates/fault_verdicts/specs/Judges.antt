@@ -7,7 +7,7 @@ use Rattle.fault_verdicts.specs.Judged.{IsBestRun, IsJudged, IsOpenAtMost, IsPos
 use Rattle.fault_verdicts.specs.Ready.{AreReadyForVerdicts}
 use Rattle.answers.specs.declared.verdict.Verdict.{Verdict}
 use Rattle.answers.specs.declared.verdict.Verdict.TheVariants.{Possible}
-use Rattle.fault_verdicts.specs.declared.kept.Kept.{Kept}
+use Rattle.fault_verdicts.specs.declared.kept.Carried.{Carried}
 use Rattle.least_faults.specs.Parts.{BelongTo}
 use Rattle.answers.specs.declared.found.Best.{Best}
 use Rattle.least_faults.specs.declared.parts.Parts.{Parts}
@@ -68,11 +68,11 @@ pub record KeepsMatter {R : Type 0} (old new : JudgeState R) : Type 0 where
   pub rank : new.parts.solver.order.rank ≡ old.parts.solver.order.rank
 
 -- what is judged, within the steps of the parts that are kept
-abbrev pub matter_of : {R : Type 0} → Net → Log → Best → ℕ → Kept R → Matter
+abbrev pub matter_of : {R : Type 0} → Net → Log → Best → ℕ → Carried R → Matter
 matter_of net log best budget kept = record { net = net; log = log; steps = kept.parts.step.steps; best = best; budget = budget }
 
 -- The parts are those of the question, within so many steps as it may have. The run that is known is best, with at most 255 faults, and so are the others that were found.
-pub record IsJudgeOf {R : Type 0} (net : Net) (log : Log) (best : Best) (kept : Kept R) : Type 0 where
+pub record IsJudgeOf {R : Type 0} (net : Net) (log : Log) (best : Best) (kept : Carried R) : Type 0 where
   pub belong : BelongTo net log kept.parts
   pub steps : kept.parts.step.steps ≤ MOST_STEPS
   pub few : best.faults ≤ 255
@@ -80,12 +80,12 @@ pub record IsJudgeOf {R : Type 0} (net : Net) (log : Log) (best : Best) (kept : 
   pub others : AllByRecursion (IsBestRun net log kept.parts.step.steps best.faults) kept.others.items
 
 -- It is so, and parts and book are ready for the next question.
-pub record IsReadyToJudge {R : Type 0} (may : R → ℕ → Type 0) (gives : R → ℕ → ℕ → Type 0) (net : Net) (log : Log) (best : Best) (kept : Kept R) : Type 0 where
+pub record IsReadyToJudge {R : Type 0} (may : R → ℕ → Type 0) (gives : R → ℕ → ℕ → Type 0) (net : Net) (log : Log) (best : Best) (kept : Carried R) : Type 0 where
   pub is_of : IsJudgeOf net log best kept
   pub ready : AreReadyForVerdicts may gives kept.parts kept.book.entries
 
 -- the steps stay, and what ranks
-pub record KeepsSteps {R : Type 0} (old new : Kept R) : Type 0 where
+pub record KeepsSteps {R : Type 0} (old new : Carried R) : Type 0 where
   pub steps : new.parts.step.steps ≡ old.parts.step.steps
   pub rank : new.parts.solver.order.rank ≡ old.parts.solver.order.rank
 

@@ -8,7 +8,7 @@ ghost use Rattle.fault_verdicts.specs.Ready.{AreReadyForVerdicts};
 ghost use Rattle.least_faults.specs.Growing.{HasGrownWithin};
 ghost use Rattle.least_faults.specs.Parts.{BelongTo};
 
-use crate::kept::{About, Kept};
+use crate::kept::{About, Carried};
 use crate::others::judge_kept;
 use answers::Verdict;
 use des_base::{EventId, Memory};
@@ -26,7 +26,7 @@ use std::marker::Model;
 #[derive(Drop)]
 pub struct Judge<'a, R> {
     about: About<'a>,
-    kept: Kept<R>,
+    kept: Carried<R>,
 }
 
 impl<'a, R> Model for Judge<'a, R> {
@@ -63,7 +63,7 @@ impl<'a, R: Fn(u32) -> u64> Judge<'a, R> {
             budget,
             alloc,
         };
-        let kept = Kept {
+        let kept = Carried {
             parts,
             book,
             others: Vec::new(alloc),
@@ -102,7 +102,7 @@ impl<'a, R: Fn(u32) -> u64> Judge<'a, R> {
         ensures steps { self.entry.parts.step.steps ≡ self.entry.matter.steps }
     {
         let Judge { about: _, kept } = self;
-        let Kept {
+        let Carried {
             parts,
             book,
             others,

@@ -14,7 +14,7 @@ use crate::assuming::{assume_none, assume_some};
 use answers::Verdict;
 use des_base::{EventId, Memory};
 use des_net::Network;
-use least_faults::Parts;
+use least_faults::{Parts, Question};
 use log_order::AlarmLog;
 use proof_ledger::Ledger;
 use prop_core::Lit;
@@ -54,25 +54,17 @@ pub fn verdict<R: Fn(u32) -> u64>(
     ensures judged { IfOk result (IsJudged net.now log.now parts.new.step.steps k event budget first.now book.old.entries book.new.entries) }
     ensures unanswered { OnErr result (IsOpenAtMost net.now log.now parts.new.step.steps k event budget first.now book.old.entries book.new.entries) }
 {
-    let about = About { net, log, alloc };
+    let question = Question { net, log, alloc };
     let mut left = budget;
     book.put_mark(0)?;
-    let verdict = ask(about, parts, book, k, first.steps(), event, &mut left)?;
+    let verdict = ask(question, parts, book, k, first.steps(), event, &mut left)?;
     book.put_mark(1)?;
     Ok(verdict)
 }
 
-// A network and a log, and where the memory for answers comes from.
-#[derive(Clone, Copy)]
-struct About<'a> {
-    net: &'a Network,
-    log: &'a AlarmLog,
-    alloc: Global,
-}
-
 // Asks for a best explanation that differs from the known one in this event.
 fn ask<R: Fn(u32) -> u64>(
-    about: About<'_>,
+    question: Question<'_>,
     parts: &mut Parts<R>,
     book: &mut Ledger,
     k: u32,
@@ -80,33 +72,33 @@ fn ask<R: Fn(u32) -> u64>(
     event: EventId,
     left: &mut u64,
 ) -> Result<Verdict, Memory>
-    requires belong { BelongTo about.net.now about.log.now parts.old }
+    requires belong { BelongTo question.net.now question.log.now parts.old }
     requires steps { parts.old.step.steps ≤ MOST_STEPS }
     requires ready { AreReadyForVerdicts R.pre R.post parts.old book.old.entries }
     requires few { k ≤ 255 }
-    requires best { IsBestRun about.net.now about.log.now parts.old.step.steps k first.now }
-    requires known { event < length about.net.now.events }
-    requires fault { is_fault about.net.now event ≡ true }
+    requires best { IsBestRun question.net.now question.log.now parts.old.step.steps k first.now }
+    requires known { event < length question.net.now.events }
+    requires fault { is_fault question.net.now event ≡ true }
     requires room { parts.old.vars ≤ 1000000000 }
     ensures ready { AreReadyForVerdicts R.pre R.post parts.new book.new.entries }
     ensures goes_on { KeepsStepsAndLog 1 parts.old parts.new }
     ensures searching { IsSearching book.old.entries book.new.entries left.old left.new }
-    ensures asked { IfOk result (IsVerdictShown about.entry.net.now about.entry.log.now parts.new.step.steps k event first.now left.old left.new book.old.entries book.new.entries) }
-    ensures quit { OnErr result (IsUnanswered about.entry.net.now about.entry.log.now parts.new.step.steps k event first.now book.old.entries book.new.entries) }
+    ensures asked { IfOk result (IsVerdictShown question.entry.net.now question.entry.log.now parts.new.step.steps k event first.now left.old left.new book.old.entries book.new.entries) }
+    ensures quit { OnErr result (IsUnanswered question.entry.net.now question.entry.log.now parts.new.step.steps k event first.now book.old.entries book.new.entries) }
 {
-    about.net.is_built();
-    about.log.is_whole();
+    question.net.is_built();
+    question.log.is_whole();
     let there = has_event(first, event);
-    let answer = solve(about, parts, book, k, there, event, left)?;
+    let answer = solve(question, parts, book, k, there, event, left)?;
     book.entries();
     match answer {
         Answer::Unsat(_) => Ok(refuted(there)),
         Answer::Spent => Ok(Verdict::Open),
         Answer::Sat => Ok(Verdict::Possible(decode(
-            about.alloc,
+            question.alloc,
             parts.solver.assignment(),
-            about.net,
-            about.log,
+            question.net,
+            question.log,
             &parts.step,
             &parts.code,
         )?)),
@@ -115,7 +107,7 @@ fn ask<R: Fn(u32) -> u64>(
 
 // Asks the solver, under what is assumed of the event.
 fn solve<R: Fn(u32) -> u64>(
-    about: About<'_>,
+    question: Question<'_>,
     parts: &mut Parts<R>,
     book: &mut Ledger,
     k: u32,
@@ -123,11 +115,11 @@ fn solve<R: Fn(u32) -> u64>(
     event: EventId,
     left: &mut u64,
 ) -> Result<Answer, Memory>
-    requires belong { BelongTo about.net.now about.log.now parts.old }
+    requires belong { BelongTo question.net.now question.log.now parts.old }
     requires ready { AreReadyForVerdicts R.pre R.post parts.old book.old.entries }
     requires few { k ≤ 255 }
-    requires known { event < length about.net.now.events }
-    requires fault { is_fault about.net.now event ≡ true }
+    requires known { event < length question.net.now.events }
+    requires fault { is_fault question.net.now event ≡ true }
     requires room { parts.old.vars ≤ 1000000000 }
     ensures ready { AreReadyForVerdicts R.pre R.post parts.new book.new.entries }
     ensures goes_on { KeepsStepsAndLog 1 parts.old parts.new }
@@ -135,9 +127,9 @@ fn solve<R: Fn(u32) -> u64>(
     ensures solved { IfOk result (IsSolvedAbout R.pre R.post parts.new k event there book.old.entries book.new.entries left.old left.new) }
     ensures quit { OnErr result (PutsNoFinal book.old.entries book.new.entries) }
 {
-    about.net.is_built();
-    about.log.is_whole();
-    let assumed = assume(about.alloc, parts, book, k, there, event)?;
+    question.net.is_built();
+    question.log.is_whole();
+    let assumed = assume(question.alloc, parts, book, k, there, event)?;
     parts.solver.solve(book, assumed.as_slice(), left)
 }
 

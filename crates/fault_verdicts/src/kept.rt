@@ -1,4 +1,4 @@
-// What events are judged by, and what is kept from one to the next.
+// What events are judged by, and what is carried from one to the next.
 use des_net::Network;
 use least_faults::{Best, Parts};
 use log_order::AlarmLog;
@@ -16,9 +16,9 @@ pub struct About<'a> {
     pub alloc: Global,
 }
 
-// The parts of the question, the book with its clauses, and the best runs that were found beside the known one.
+// What is carried from one event to the next: the parts of the question, the book with its clauses, and the best runs that were found beside the known one.
 #[derive(Drop)]
-pub struct Kept<R> {
+pub struct Carried<R> {
     pub parts: Parts<R>,
     pub book: Ledger,
     pub others: Vec<Run>,

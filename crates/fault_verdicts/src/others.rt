@@ -6,7 +6,7 @@ ghost use Rattle.fault_verdicts.specs.Judges.{AddsPossible, DiffersIn, IsEventJu
 ghost use Rattle.least_faults.specs.Growing.{HasGrownWithin};
 
 use crate::judging::{has_event, verdict};
-use crate::kept::{About, Kept};
+use crate::kept::{About, Carried};
 use answers::Verdict;
 use des_base::{EventId, Memory, Name};
 use replay::{Run, RunStep};
@@ -18,7 +18,7 @@ const MOST_VARIABLES: u32 = 1_000_000_000;
 // Judges an event: by a run that was found before, or by a question.
 pub fn judge_kept<R: Fn(u32) -> u64>(
     about: About<'_>,
-    kept: &mut Kept<R>,
+    kept: &mut Carried<R>,
     event: EventId,
 ) -> Result<Verdict, Memory>
     requires ready { IsReadyToJudge R.pre R.post about.net.now about.log.now about.best.now kept.old }
@@ -38,7 +38,7 @@ pub fn judge_kept<R: Fn(u32) -> u64>(
 }
 
 // A best run that was found before and differs from the known one in this event, where there is one.
-fn shown<R>(about: About<'_>, kept: &Kept<R>, event: EventId) -> Result<Option<Run>, Memory>
+fn shown<R>(about: About<'_>, kept: &Carried<R>, event: EventId) -> Result<Option<Run>, Memory>
     requires { IsJudgeOf about.net.now about.log.now about.best.now kept.now }
     ensures { IfOk result (λ shown. IfSome shown (IsPossibleFound about.entry.net.now about.entry.log.now kept.now.parts.step.steps about.entry.best.now.faults event about.entry.best.now.run)) }
 {
@@ -67,7 +67,7 @@ fn other_than<'r>(first: &Run, others: &'r [Run], event: EventId) -> Option<&'r 
 // Asks about the event, and keeps the run that is found.
 fn ask_kept<R: Fn(u32) -> u64>(
     about: About<'_>,
-    kept: &mut Kept<R>,
+    kept: &mut Carried<R>,
     event: EventId,
 ) -> Result<Verdict, Memory>
     requires ready { IsReadyToJudge R.pre R.post about.net.now about.log.now about.best.now kept.old }

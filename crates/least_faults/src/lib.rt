@@ -31,6 +31,7 @@ pub use building::build;
 pub use deadlines::advise;
 pub use laws::undecided_is_small;
 pub use parts::{Parts, Unbuilt};
+pub use question::Question;
 pub use searching::least;
 
 /// The size of the largest question that is built.

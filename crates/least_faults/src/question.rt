@@ -11,7 +11,7 @@ use log_encode::LogCode;
 use log_order::AlarmLog;
 use std::alloc::Global;
 
-// A network and a log, and where the memory for answers comes from.
+/// A network and a log, and where the memory for answers comes from.
 #[derive(Clone, Copy)]
 pub struct Question<'a> {
     pub net: &'a Network,

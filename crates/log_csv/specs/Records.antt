@@ -5,8 +5,8 @@ use Rattle.std.specs.Option.{option_map_or}
 use Rattle.csv.specs.Reading.{default_config, records, strip_bom}
 use Rattle.log_order.specs.Certainty.{leaves_doubt}
 use Rattle.log_order.specs.declared.certainty.Certainty.TheVariants.{Certain, Doubtful}
-use Rattle.log_csv.specs.declared.keyword.Keyword.{Keyword}
-use Rattle.log_csv.specs.declared.keyword.Keyword.TheVariants as word
+use Rattle.log_csv.specs.declared.keyword.RecordKeyword.{RecordKeyword}
+use Rattle.log_csv.specs.declared.keyword.RecordKeyword.TheVariants as word
 
 -- An alarm, whether it is doubtful, and the labels that are written for it; two alarms of which the first comes before the
 -- second; a question; no field that isn't empty; or none of these.
@@ -48,7 +48,7 @@ abbrev pub ask_record : List (List ℕ) → Record
 ask_record fields = if are_empty fields then ask else malformed
 
 -- the word that begins a record
-abbrev pub record_keyword : List ℕ → Option Keyword
+abbrev pub record_keyword : List ℕ → Option RecordKeyword
 record_keyword text =
     if bytes_eq text (codes "alarm") then Some (word.Alarm Certain)
     else if bytes_eq text (codes "maybe") then Some (word.Alarm Doubtful)
@@ -57,7 +57,7 @@ record_keyword text =
     else None
 
 -- what the fields behind a keyword say; without a keyword they have no shape
-abbrev pub record_with : Option Keyword → List (List ℕ) → Record
+abbrev pub record_with : Option RecordKeyword → List (List ℕ) → Record
 record_with None fields = malformed
 record_with (Some (word.Alarm certainty)) fields = alarm_record (leaves_doubt certainty) fields
 record_with (Some word.Before) fields = before_record fields

@@ -3,7 +3,7 @@ ghost use Rattle.std.specs.Prelude.{◌≡◌, ◌+◌, ◌&&◌, drop, option_m
 ghost use Rattle.csv.specs.Records.{fields_of};
 ghost use Rattle.log_csv.specs.Records.{are_empty, record_keyword, two_fields, record_by_word, record_with};
 
-use crate::keyword::{Keyword, record_keyword};
+use crate::keyword::{RecordKeyword, record_keyword};
 use csv::ByteRecord;
 
 // Whether the fields from a place on are empty.
@@ -29,7 +29,7 @@ fn is_empty_at(fields: &ByteRecord, place: usize) -> bool
 }
 
 // The keyword in the first field.
-pub fn keyword(fields: &ByteRecord) -> Option<Keyword>
+pub fn keyword(fields: &ByteRecord) -> Option<RecordKeyword>
     ensures { record_by_word (fields_of fields.now) ≡ record_with result (drop 1 (fields_of fields.now)) }
 {
     match fields.get(0) {

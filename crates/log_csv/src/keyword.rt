@@ -6,24 +6,24 @@ use log_order::Certainty;
 
 // The first field of a record.
 #[derive(Clone, Copy)]
-pub enum Keyword {
+pub enum RecordKeyword {
     Alarm(Certainty),
     Before,
     Ask,
 }
 
 // The keyword that the text is, if it is one.
-pub fn record_keyword(text: &[u8]) -> Option<Keyword>
+pub fn record_keyword(text: &[u8]) -> Option<RecordKeyword>
     ensures { result ≡ record_keyword text.now }
 {
     if is_word(text, "alarm") {
-        Some(Keyword::Alarm(Certainty::Certain))
+        Some(RecordKeyword::Alarm(Certainty::Certain))
     } else if is_word(text, "maybe") {
-        Some(Keyword::Alarm(Certainty::Doubtful))
+        Some(RecordKeyword::Alarm(Certainty::Doubtful))
     } else if is_word(text, "before") {
-        Some(Keyword::Before)
+        Some(RecordKeyword::Before)
     } else if is_word(text, "ask") {
-        Some(Keyword::Ask)
+        Some(RecordKeyword::Ask)
     } else {
         None
     }

@@ -7,7 +7,7 @@ ghost use Rattle.log_csv.specs.Reading.{Reads, ReadsRecord};
 ghost use Rattle.log_csv.specs.ScriptText.{alarm_row};
 
 use crate::fields::{are_empty_from, keyword, two_fields};
-use crate::keyword::Keyword;
+use crate::keyword::RecordKeyword;
 use crate::labels::{name_of, read_labels};
 use crate::refusal::RowRefusal;
 use crate::row::Row;
@@ -34,9 +34,9 @@ fn read_row(alloc: Global, fields: &ByteRecord) -> Result<Row, RowRefusal>
     ensures { Reads (record_by_word (fields_of fields.now)) result }
 {
     match keyword(fields) {
-        Some(Keyword::Alarm(certainty)) => read_alarm(alloc, fields, certainty),
-        Some(Keyword::Before) => read_before(alloc, fields),
-        Some(Keyword::Ask) => read_ask(fields),
+        Some(RecordKeyword::Alarm(certainty)) => read_alarm(alloc, fields, certainty),
+        Some(RecordKeyword::Before) => read_before(alloc, fields),
+        Some(RecordKeyword::Ask) => read_ask(fields),
         None => Err(RowRefusal::Shape),
     }
 }

@@ -12,8 +12,8 @@ use Rattle.des_net.specs.Building.{IsDraft, lacks_init}
 use Rattle.des_net.proofs.DraftLemmas.{IsDraft-none}
 use Rattle.des_net.proofs.NetworkLemmas.{IsNetwork-from_draft}
 use Rattle.model_text.specs.declared.fault.ModelFault.{ModelFault}
-use Rattle.model_text.specs.declared.keyword.Keyword.{Keyword}
-use Rattle.model_text.specs.declared.keyword.Keyword.TheVariants.{Component, State, Trans, Event}
+use Rattle.model_text.specs.declared.keyword.LineKeyword.{LineKeyword}
+use Rattle.model_text.specs.declared.keyword.LineKeyword.TheVariants.{Component, State, Trans, Event}
 use Rattle.model_text.specs.ModelLines.{ModelLine, component, state, transition, event, NamedPart, after_flags, after_label, after_name, component_line, event_line, is_model_header, keyword_line, line_keyword, model_line, parts_of_tokens, part_of_token, state_line, transition_line}
 use Rattle.model_text.specs.ModelNetwork.{components_of, model_lines, network_of_lines}
 use Rattle.model_text.specs.ModelFaults.{model_body, component_numbers, model_fault_of_lines, model_fault_or, first_model_code, first_model_fault, model_line_code, network_of, model_shape_code, start_fault, with_shape, names_of_line, is_homeless, is_double_line, has_unknown_word, is_line_past_limit}
@@ -168,7 +168,7 @@ transition_has (from ∷ action ∷ []) line h = cc
 transition_has (from ∷ action ∷ to ∷ []) line h = subst HasParts (same_Some (transition from action to) line h) tt
 transition_has (from ∷ action ∷ to ∷ more ∷ tokens) line h = cc
 
-keyword_has : (tokens : List (List ℕ)) (o : Option Keyword) (line : ModelLine) → option_and_then (keyword_line tokens) o ≡ Some line → HasParts line
+keyword_has : (tokens : List (List ℕ)) (o : Option LineKeyword) (line : ModelLine) → option_and_then (keyword_line tokens) o ≡ Some line → HasParts line
 keyword_has tokens None line h = cc
 keyword_has tokens (Some Component) line h = component_has tokens line h
 keyword_has tokens (Some State) line h = state_has tokens line h

@@ -1,8 +1,8 @@
 -- What a line of a model text says, by its tokens.
 use Rattle.std.specs.Prelude.{ℕ, Bool, true, false, List, [], ◌∷◌, map, option_and_then, option_map, Option, Some, None, bytes_eq, codes, if◌then◌else◌, ◌==◌}
 use Rattle.std.specs.List.{slice_split}
-use Rattle.model_text.specs.declared.keyword.Keyword.{Keyword}
-use Rattle.model_text.specs.declared.keyword.Keyword.TheVariants.{Component, State, Trans, Event}
+use Rattle.model_text.specs.declared.keyword.LineKeyword.{LineKeyword}
+use Rattle.model_text.specs.declared.keyword.LineKeyword.TheVariants.{Component, State, Trans, Event}
 
 -- a component and an action of it, by name
 pub record NamedPart : Type 0 where
@@ -83,7 +83,7 @@ event_line [] = None
 event_line (name ∷ tokens) = after_name name tokens
 
 -- which of the four keywords the first word of a line is, if it is one
-abbrev pub line_keyword : List ℕ → Option Keyword
+abbrev pub line_keyword : List ℕ → Option LineKeyword
 line_keyword word =
     if bytes_eq word (codes "component") then Some Component
     else if bytes_eq word (codes "state") then Some State
@@ -92,7 +92,7 @@ line_keyword word =
     else None
 
 -- what the tokens after a keyword say, if they have the shape that belongs to it
-abbrev pub keyword_line : List (List ℕ) → Keyword → Option ModelLine
+abbrev pub keyword_line : List (List ℕ) → LineKeyword → Option ModelLine
 keyword_line tokens Component = component_line tokens
 keyword_line tokens State = state_line tokens
 keyword_line tokens Trans = transition_line tokens

@@ -6,7 +6,7 @@ ghost use Rattle.model_text.specs.ModelLines.{event, model_line, component_line,
 ghost use Rattle.model_text.specs.LineAdditions.{AddsLine, IsCurrent};
 ghost use Rattle.model_text.specs.Shapes.{part_said};
 
-use crate::keyword::{Keyword, line_keyword};
+use crate::keyword::{LineKeyword, line_keyword};
 use crate::line_name::{label_of, name_of};
 use crate::line_shape::{component_line, event_line, state_line, transition_line};
 use crate::part_name::{PartName, part_names};
@@ -27,10 +27,10 @@ pub(crate) fn add_line(alloc: Global, builder: &mut Builder, line: &Line) -> Res
         return Err(LineRefusal::Shape);
     };
     match line_keyword(word.text) {
-        Some(Keyword::Component) => add_component(alloc, builder, tokens),
-        Some(Keyword::State) => add_state(alloc, builder, current, tokens),
-        Some(Keyword::Trans) => add_transition(alloc, builder, current, tokens),
-        Some(Keyword::Event) => add_event(alloc, builder, tokens),
+        Some(LineKeyword::Component) => add_component(alloc, builder, tokens),
+        Some(LineKeyword::State) => add_state(alloc, builder, current, tokens),
+        Some(LineKeyword::Trans) => add_transition(alloc, builder, current, tokens),
+        Some(LineKeyword::Event) => add_event(alloc, builder, tokens),
         None => Err(LineRefusal::Shape),
     }
 }

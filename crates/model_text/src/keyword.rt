@@ -4,7 +4,7 @@ ghost use Rattle.model_text.specs.ModelLines.{line_keyword};
 
 /// The first word of a line after the header.
 #[derive(Clone, Copy)]
-pub enum Keyword {
+pub enum LineKeyword {
     Component,
     State,
     Trans,
@@ -19,17 +19,17 @@ pub(crate) fn is_word(text: &[u8], word: &str) -> bool
 }
 
 // The keyword that the text is, if it is one.
-pub(crate) fn line_keyword(text: &[u8]) -> Option<Keyword>
+pub(crate) fn line_keyword(text: &[u8]) -> Option<LineKeyword>
     ensures { result ≡ line_keyword text.now }
 {
     if is_word(text, "component") {
-        Some(Keyword::Component)
+        Some(LineKeyword::Component)
     } else if is_word(text, "state") {
-        Some(Keyword::State)
+        Some(LineKeyword::State)
     } else if is_word(text, "trans") {
-        Some(Keyword::Trans)
+        Some(LineKeyword::Trans)
     } else if is_word(text, "event") {
-        Some(Keyword::Event)
+        Some(LineKeyword::Event)
     } else {
         None
     }

@@ -21,7 +21,7 @@ mod reader;
 mod refusal;
 
 pub use fault::{ModelFault, ModelRefusal};
-pub use keyword::Keyword;
+pub use keyword::LineKeyword;
 pub use laws::{lines_grow, models_read_back};
 pub use print::print_model;
 pub use reader::read_model;

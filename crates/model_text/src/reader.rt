@@ -11,7 +11,7 @@ ghost use Rattle.model_text.specs.LineAdditions.{BuildsLines};
 use crate::addition::add_line;
 use crate::fault::{ModelRefusal, fault_at};
 use crate::header::is_model_header;
-use crate::keyword::{Keyword, line_keyword};
+use crate::keyword::{LineKeyword, line_keyword};
 use crate::line_shape::component_line;
 use des_base::{CompId, Line, Lines};
 use des_net::{Builder, Network};
@@ -96,7 +96,7 @@ fn begins_component(line: &Line) -> bool
         return false;
     };
     match line_keyword(word.text) {
-        Some(Keyword::Component) => component_line(tokens).is_some(),
-        Some(Keyword::State | Keyword::Trans | Keyword::Event) | None => false,
+        Some(LineKeyword::Component) => component_line(tokens).is_some(),
+        Some(LineKeyword::State | LineKeyword::Trans | LineKeyword::Event) | None => false,
     }
 }

@@ -6,8 +6,8 @@ use Rattle.std.proofs.lemmas.List.{append-nil}
 use Rattle.std.proofs.lemmas.List.Elements.{filter_map-append}
 use Rattle.prop_core.specs.Clauses.{Clause}
 use Rattle.proof_ledger.specs.declared.entry.Entry.{Entry}
-use Rattle.proof_ledger.specs.declared.entry.Kept.{Kept}
-use Rattle.proof_ledger.specs.declared.entry.Kept.TheVariants.{Axiom, Learnt, Final, Mark}
+use Rattle.proof_ledger.specs.declared.entry.KeptEntry.{KeptEntry}
+use Rattle.proof_ledger.specs.declared.entry.KeptEntry.TheVariants.{Axiom, Learnt, Final, Mark}
 use Rattle.proof_ledger.specs.declared.ledger.Origin.{Origin}
 use Rattle.proof_ledger.specs.declared.ledger.Origin.TheVariants as origins
 use Rattle.proof_ledger.specs.Book.{BookEntry, axiomatic, learnt, final, mark, clause_of, clause_hints_of, clauses_of, hints_of, shown, EachAfter, IsDerivedIfDue, DerivesFrom, IsEntryAt}
@@ -36,12 +36,12 @@ each_more earlier [] e all h = (subst (λ (b : List BookEntry). IsDerivedIfDue b
 each_more earlier (x ∷ book) e all h = (all.0, each_more (earlier ++ x ∷ []) book e all.1 (subst (λ (b : List BookEntry). IsDerivedIfDue b e) (sym (append_assoc earlier (x ∷ []) book)) h))
 
 -- An entry joins a book: what is kept is that of the longer book.
-pub record Joined (entries : List Kept) (clauses : List Clause) (hints : List (List ℕ)) (book : List BookEntry) : Type 0 where
+pub record Joined (entries : List KeptEntry) (clauses : List Clause) (hints : List (List ℕ)) (book : List BookEntry) : Type 0 where
   pub kept : IsKeptBook entries clauses hints
   pub book_is : book_of entries clauses hints ≡ book
   pub count : length clauses ≡ length (clauses_of book)
 
-is_book : (entries : List Kept) (clauses : List Clause) (hints : List (List ℕ)) (book : List BookEntry) → IsBook entries clauses hints book → Joined entries clauses hints book
+is_book : (entries : List KeptEntry) (clauses : List Clause) (hints : List (List ℕ)) (book : List BookEntry) → IsBook entries clauses hints book → Joined entries clauses hints book
 is_book entries clauses hints book h =
     let same : book_of entries clauses hints ≡ book = rw (h.entries_are, h.clauses_are, h.hints_are) (book_of-kept 0 book) in
     record {
@@ -50,7 +50,7 @@ is_book entries clauses hints book h =
       count = ap length h.clauses_are;
     }
 
-pub joined : (es es' : List Kept) (cs cs' : List Clause) (hs hs' : List (List ℕ)) (book : List BookEntry) (e : BookEntry) → IsKeptBook es cs hs → book_of es cs hs ≡ book → IsDerivedIfDue book e →
+pub joined : (es es' : List KeptEntry) (cs cs' : List Clause) (hs hs' : List (List ℕ)) (book : List BookEntry) (e : BookEntry) → IsKeptBook es cs hs → book_of es cs hs ≡ book → IsDerivedIfDue book e →
     es' ≡ es ++ kept (length cs + 1) e ∷ [] → cs' ≡ cs ++ clauses_of (e ∷ []) → hs' ≡ hs ++ hints_of (e ∷ []) → Joined es' cs' hs' (book ++ e ∷ [])
 joined es es' cs cs' hs hs' book e before same derived more_entries more_clauses more_hints =
     let k : IsBook es cs hs book = subst (λ (b : List BookEntry). IsBook es cs hs b) same before in
@@ -61,7 +61,7 @@ joined es es' cs cs' hs hs' book e before same derived more_entries more_clauses
       valid = each_more [] book e k.valid derived;
     })
 
-length-book_of : (es : List Kept) (cs : List Clause) (hs : List (List ℕ)) → length (book_of es cs hs) ≡ length es
+length-book_of : (es : List KeptEntry) (cs : List Clause) (hs : List (List ℕ)) → length (book_of es cs hs) ≡ length es
 length-book_of [] cs hs = refl
 length-book_of (Axiom id ∷ es) cs hs = ap suc (length-book_of es (drop 1 cs) (drop 1 hs))
 length-book_of (Learnt id ∷ es) cs hs = ap suc (length-book_of es (drop 1 cs) (drop 1 hs))
@@ -69,7 +69,7 @@ length-book_of (Final id ∷ es) cs hs = ap suc (length-book_of es (drop 1 cs) (
 length-book_of (Mark k ∷ es) cs hs = ap suc (length-book_of es cs hs)
 
 -- there are as many entries as are kept
-pub count_entries : (es : List Kept) (cs : List Clause) (hs : List (List ℕ)) (book : List BookEntry) → book_of es cs hs ≡ book → length es ≡ length book
+pub count_entries : (es : List KeptEntry) (cs : List Clause) (hs : List (List ℕ)) (book : List BookEntry) → book_of es cs hs ≡ book → length es ≡ length book
 count_entries es cs hs book same = sym (length-book_of es cs hs) ∙ ap length same
 
 length-hints_of : (book : List BookEntry) → length (hints_of book) ≡ length (clauses_of book)
@@ -80,10 +80,10 @@ length-hints_of (final clause hints ∷ book) = ap suc (length-hints_of book)
 length-hints_of (mark k ∷ book) = length-hints_of book
 
 -- and as many hints as clauses
-pub count_hints : (es : List Kept) (cs : List Clause) (hs : List (List ℕ)) (book : List BookEntry) → IsKeptBook es cs hs → book_of es cs hs ≡ book → length hs ≡ length (clauses_of book)
+pub count_hints : (es : List KeptEntry) (cs : List Clause) (hs : List (List ℕ)) (book : List BookEntry) → IsKeptBook es cs hs → book_of es cs hs ≡ book → length hs ≡ length (clauses_of book)
 count_hints es cs hs book before same = ap length before.hints_are ∙ length-hints_of (book_of es cs hs) ∙ ap (λ (b : List BookEntry). length (clauses_of b)) same
 
-kept_at : (count : ℕ) (book : List BookEntry) (place : ℕ) (d : Kept) → place < length book →
+kept_at : (count : ℕ) (book : List BookEntry) (place : ℕ) (d : KeptEntry) → place < length book →
     MatchOption (slice_get book place) ⊥ (λ e. get_or (kept_from count book) place d ≡ kept (count + length (clauses_of (take place book)) + 1) e)
 kept_at count [] place d h = absurd (omega arith)
 kept_at count (axiomatic clause ∷ book) zero d h = rw add-zero refl
@@ -113,16 +113,16 @@ if_some None P Q f h = h
 if_some (Some e) P Q f h = f e h
 
 -- the entry at a place is shown with the number of its clause
-pub entry_at : (es : List Kept) (cs : List Clause) (hs : List (List ℕ)) (book : List BookEntry) (place : ℕ) (there : Kept) (entry : Entry) → IsKeptBook es cs hs → book_of es cs hs ≡ book →
+pub entry_at : (es : List KeptEntry) (cs : List Clause) (hs : List (List ℕ)) (book : List BookEntry) (place : ℕ) (there : KeptEntry) (entry : Entry) → IsKeptBook es cs hs → book_of es cs hs ≡ book →
     place < length book → there ≡ get_or es place there → entry ≡ visible_entry there → IsEntryAt book place entry
 entry_at es cs hs book place there entry same_book same h e shows =
     let k : IsBook es cs hs book = subst (λ (b : List BookEntry). IsBook es cs hs b) same same_book in
-    let at : get_or (kept_from 0 book) place there ≡ there = sym (e ∙ ap (λ (l : List Kept). get_or l place there) k.entries_are) in
+    let at : get_or (kept_from 0 book) place there ≡ there = sym (e ∙ ap (λ (l : List KeptEntry). get_or l place there) k.entries_are) in
     let n : 0 + length (clauses_of (take place book)) + 1 ≡ length (clauses_of (take place book)) + 1 = omega arith in
     if_some (slice_get book place) _ _ (λ x is. shows ∙ ap visible_entry (sym at ∙ is) ∙ ap (λ (m : ℕ). visible_entry (kept m x)) n ∙ visible_entry-kept _ x) (kept_at 0 book place there h)
 
 -- the hints of a clause
-pub hints_at : (es : List Kept) (cs : List Clause) (hs : List (List ℕ)) (book : List BookEntry) (place : ℕ) (hints : List ℕ) → IsKeptBook es cs hs → book_of es cs hs ≡ book →
+pub hints_at : (es : List KeptEntry) (cs : List Clause) (hs : List (List ℕ)) (book : List BookEntry) (place : ℕ) (hints : List ℕ) → IsKeptBook es cs hs → book_of es cs hs ≡ book →
     slice_get hs place ≡ Some hints → slice_get (hints_of book) place ≡ Some hints
 hints_at es cs hs book place hints before same at =
     let k : IsBook es cs hs book = subst (λ (b : List BookEntry). IsBook es cs hs b) same before in
@@ -132,14 +132,14 @@ one_more : (cs : List Clause) (c : Clause) → length (cs ++ c ∷ []) ≡ lengt
 one_more cs c = grind (arith, common_steps)
 
 -- an axiom joins the book
-pub axiom_joined : (clause : Clause) (es es' : List Kept) (cs cs' : List Clause) (hs hs' : List (List ℕ)) (book : List BookEntry) (id : ℕ) →
+pub axiom_joined : (clause : Clause) (es es' : List KeptEntry) (cs cs' : List Clause) (hs hs' : List (List ℕ)) (book : List BookEntry) (id : ℕ) →
     IsKeptBook es cs hs → book_of es cs hs ≡ book → id ≡ length cs' → es' ≡ es ++ Axiom id ∷ [] → cs' ≡ cs ++ clause ∷ [] → hs' ≡ hs ++ [] ∷ [] → Joined es' cs' hs' (book ++ axiomatic clause ∷ [])
 axiom_joined clause es es' cs cs' hs hs' book id before same number e c h =
     let n : id ≡ length cs + 1 = number ∙ ap length c ∙ one_more cs clause in
     joined es es' cs cs' hs hs' book (axiomatic clause) before same tt (e ∙ ap (λ k. es ++ Axiom k ∷ []) n) c h
 
 -- a clause that is derived joins it by its origin
-pub put_joined : (origin : Origin) (clause : Clause) (hints : List ℕ) (es es' : List Kept) (cs cs' : List Clause) (hs hs' : List (List ℕ)) (book : List BookEntry) (id : ℕ) (entry : Kept) →
+pub put_joined : (origin : Origin) (clause : Clause) (hints : List ℕ) (es es' : List KeptEntry) (cs cs' : List Clause) (hs hs' : List (List ℕ)) (book : List BookEntry) (id : ℕ) (entry : KeptEntry) →
     IsKeptBook es cs hs → book_of es cs hs ≡ book → DerivesFrom book clause hints → id ≡ length cs' → entry ≡ kept id (made origin [] []) →
     es' ≡ es ++ entry ∷ [] → cs' ≡ cs ++ clause ∷ [] → hs' ≡ hs ++ hints ∷ [] → Joined es' cs' hs' (book ++ made origin clause hints ∷ [])
 put_joined origins.Learnt clause hints es es' cs cs' hs hs' book id entry before same derived number is e c h =
@@ -150,5 +150,5 @@ put_joined origins.Final clause hints es es' cs cs' hs hs' book id entry before 
     joined es es' cs cs' hs hs' book (final clause hints) before same derived (e ∙ ap (λ x. es ++ x ∷ []) (is ∙ ap Final n)) c h
 
 -- a mark joins it, and the clauses stay
-pub mark_joined : (number : ℕ) (es es' : List Kept) (cs : List Clause) (hs : List (List ℕ)) (book : List BookEntry) → IsKeptBook es cs hs → book_of es cs hs ≡ book → es' ≡ es ++ Mark number ∷ [] → Joined es' cs hs (book ++ mark number ∷ [])
+pub mark_joined : (number : ℕ) (es es' : List KeptEntry) (cs : List Clause) (hs : List (List ℕ)) (book : List BookEntry) → IsKeptBook es cs hs → book_of es cs hs ≡ book → es' ≡ es ++ Mark number ∷ [] → Joined es' cs hs (book ++ mark number ∷ [])
 mark_joined number es es' cs hs book before same e = joined es es' cs cs hs hs book (mark number) before same tt e (sym (append-nil cs)) (sym (append-nil hs))

@@ -2,24 +2,24 @@
 use Rattle.std.specs.Prelude.{◌≡◌, ℕ, ◌≤◌, List, ⊤}
 use Rattle.prop_core.specs.declared.lit.Lit.{Lit}
 use Rattle.prop_core.specs.Derivation.{Standing, falsified, satisfied, unit, wide, Derivation, derives, fails, Progress, ended, goes_on}
-use Rattle.proof_ledger.specs.declared.truths.Stands.{Stands}
-use Rattle.proof_ledger.specs.declared.truths.Stands.TheVariants.{Falsified, Satisfied, Unit as OneOpen, Wide}
-use Rattle.proof_ledger.specs.declared.truths.Step.{Step}
-use Rattle.proof_ledger.specs.declared.truths.Step.TheVariants as steps
+use Rattle.proof_ledger.specs.declared.truths.HintStands.{HintStands}
+use Rattle.proof_ledger.specs.declared.truths.HintStands.TheVariants.{Falsified, Satisfied, Unit as OneOpen, Wide}
+use Rattle.proof_ledger.specs.declared.truths.HintStep.{HintStep}
+use Rattle.proof_ledger.specs.declared.truths.HintStep.TheVariants as steps
 use Rattle.proof_ledger.specs.declared.entry.DeriveFault.{DeriveFault}
 use Rattle.proof_ledger.specs.declared.entry.DeriveFault.TheVariants.{Hint, Memory}
 use Rattle.proof_ledger.specs.declared.follow.Outcome.{Outcome}
 use Rattle.proof_ledger.specs.declared.follow.Outcome.TheVariants as outcomes
 
 -- how a clause stands, by what the code says of it
-abbrev pub standing_of : Stands → Standing
+abbrev pub standing_of : HintStands → Standing
 standing_of Falsified = falsified
 standing_of Satisfied = satisfied
 standing_of (OneOpen l) = unit l
 standing_of Wide = wide
 
 -- what the hint at a place leads to, by what the code says, and with the literals that are taken as true from then on
-abbrev pub progress_of : ℕ → List Lit → Step → Progress
+abbrev pub progress_of : ℕ → List Lit → HintStep → Progress
 progress_of at taken steps.Derives = ended derives
 progress_of at taken (steps.Fails kind) = ended (fails at kind)
 progress_of at taken steps.GoesOn = goes_on taken

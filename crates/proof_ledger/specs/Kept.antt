@@ -3,8 +3,8 @@ use Rattle.std.specs.Prelude.{◌≡◌, ℕ, ◌+◌, List, [], ◌∷◌, drop
 use Rattle.prop_core.specs.Clauses.{Clause}
 use Rattle.proof_ledger.specs.declared.entry.Entry.{Entry}
 use Rattle.proof_ledger.specs.declared.entry.Entry.TheVariants as shown_entries
-use Rattle.proof_ledger.specs.declared.entry.Kept.{Kept}
-use Rattle.proof_ledger.specs.declared.entry.Kept.TheVariants.{Axiom, Learnt, Final, Mark}
+use Rattle.proof_ledger.specs.declared.entry.KeptEntry.{KeptEntry}
+use Rattle.proof_ledger.specs.declared.entry.KeptEntry.TheVariants.{Axiom, Learnt, Final, Mark}
 use Rattle.proof_ledger.specs.declared.ledger.Origin.{Origin}
 use Rattle.proof_ledger.specs.declared.ledger.Origin.TheVariants as origins
 use Rattle.proof_ledger.specs.Book.{BookEntry, axiomatic, learnt, final, mark, clauses_of, hints_of, IsValidBook}
@@ -16,7 +16,7 @@ pub record LedgerState : Type 0 where
   pub spare_literals : ℕ
 
 -- the book that is kept so
-abbrev pub book_of : List Kept → List Clause → List (List ℕ) → List BookEntry
+abbrev pub book_of : List KeptEntry → List Clause → List (List ℕ) → List BookEntry
 book_of [] clauses hints = []
 book_of (Axiom id ∷ entries) clauses hints = axiomatic (slice_index_or clauses 0 []) ∷ book_of entries (drop 1 clauses) (drop 1 hints)
 book_of (Learnt id ∷ entries) clauses hints = learnt (slice_index_or clauses 0 []) (slice_index_or hints 0 []) ∷ book_of entries (drop 1 clauses) (drop 1 hints)
@@ -24,7 +24,7 @@ book_of (Final id ∷ entries) clauses hints = final (slice_index_or clauses 0 [
 book_of (Mark k ∷ entries) clauses hints = mark k ∷ book_of entries clauses hints
 
 -- the entries as they are kept, behind some number of clauses
-abbrev pub kept_from : ℕ → List BookEntry → List Kept
+abbrev pub kept_from : ℕ → List BookEntry → List KeptEntry
 kept_from count [] = []
 kept_from count (axiomatic clause ∷ book) = Axiom (count + 1) ∷ kept_from (count + 1) book
 kept_from count (learnt clause hints ∷ book) = Learnt (count + 1) ∷ kept_from (count + 1) book
@@ -32,25 +32,25 @@ kept_from count (final clause hints ∷ book) = Final (count + 1) ∷ kept_from 
 kept_from count (mark k ∷ book) = Mark k ∷ kept_from count book
 
 -- these are the entries, clauses and hints of a valid book
-pub record IsBook (entries : List Kept) (clauses : List Clause) (hints : List (List ℕ)) (book : List BookEntry) : Type 0 where
+pub record IsBook (entries : List KeptEntry) (clauses : List Clause) (hints : List (List ℕ)) (book : List BookEntry) : Type 0 where
   pub entries_are : entries ≡ kept_from 0 book
   pub clauses_are : clauses ≡ clauses_of book
   pub hints_are : hints ≡ hints_of book
   pub valid : IsValidBook book
 
 -- the entries, clauses and hints that are kept are those of a valid book: the one that `book_of` reads from them
-abbrev pub IsKeptBook : List Kept → List Clause → List (List ℕ) → Type 0
+abbrev pub IsKeptBook : List KeptEntry → List Clause → List (List ℕ) → Type 0
 IsKeptBook entries clauses hints = IsBook entries clauses hints (book_of entries clauses hints)
 
 -- an entry as it is kept, with the number of its clause
-abbrev pub kept : ℕ → BookEntry → Kept
+abbrev pub kept : ℕ → BookEntry → KeptEntry
 kept number (axiomatic clause) = Axiom number
 kept number (learnt clause hints) = Learnt number
 kept number (final clause hints) = Final number
 kept number (mark k) = Mark k
 
 -- the entry that a caller sees
-abbrev pub visible_entry : Kept → Entry
+abbrev pub visible_entry : KeptEntry → Entry
 visible_entry (Axiom number) = shown_entries.Axiom number
 visible_entry (Learnt number) = shown_entries.Learnt number
 visible_entry (Final number) = shown_entries.Final number

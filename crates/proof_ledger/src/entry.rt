@@ -20,7 +20,7 @@ pub enum Entry {
 
 // An entry as it is kept, in eight bytes.
 #[derive(Clone, Copy)]
-pub enum Kept {
+pub enum KeptEntry {
     Axiom(u32),
     Learnt(u32),
     Final(u32),
@@ -28,14 +28,14 @@ pub enum Kept {
 }
 
 // The entry that is kept so.
-pub fn shown_entry(kept: Kept) -> Entry
+pub fn shown_entry(kept: KeptEntry) -> Entry
     ensures { result ≡ visible_entry kept }
 {
     match kept {
-        Kept::Axiom(number) => Entry::Axiom(ClauseId(number as u64)),
-        Kept::Learnt(number) => Entry::Learnt(ClauseId(number as u64)),
-        Kept::Final(number) => Entry::Final(ClauseId(number as u64)),
-        Kept::Mark(number) => Entry::Mark(number),
+        KeptEntry::Axiom(number) => Entry::Axiom(ClauseId(number as u64)),
+        KeptEntry::Learnt(number) => Entry::Learnt(ClauseId(number as u64)),
+        KeptEntry::Final(number) => Entry::Final(ClauseId(number as u64)),
+        KeptEntry::Mark(number) => Entry::Mark(number),
     }
 }
 

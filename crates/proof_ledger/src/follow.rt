@@ -5,7 +5,7 @@ ghost use Rattle.prop_core.specs.declared.lit.Lit.{Lit};
 ghost use Rattle.prop_core.specs.Derivation.{derive, clause_numbered};
 ghost use Rattle.proof_ledger.specs.Following.{derivation_of, IsPlaceWithin};
 
-use crate::truths::{Step, Truths};
+use crate::truths::{HintStep, Truths};
 use des_base::Memory;
 use prop_core::{ClauseId, Clauses, Lit};
 
@@ -49,9 +49,9 @@ pub fn derive_by<H: Holds>(
     truths.negate(clause)?;
     for (hint_at, hint) in hints.iter().enumerate() {
         match truths.follow(holds.find(*hint))? {
-            Step::Derives => return Ok(Outcome::Derives),
-            Step::Fails(kind) => return Ok(Outcome::Fails { hint_at, kind }),
-            Step::GoesOn => {}
+            HintStep::Derives => return Ok(Outcome::Derives),
+            HintStep::Fails(kind) => return Ok(Outcome::Fails { hint_at, kind }),
+            HintStep::GoesOn => {}
         }
     }
     Ok(Outcome::Fails {

@@ -5,7 +5,7 @@ ghost use Rattle.proof_ledger.specs.Book.{axiomatic, learnt, final, mark, clause
 ghost use Rattle.proof_ledger.specs.Kept.{kept, made};
 ghost use Rattle.proof_ledger.specs.Following.{derivation_of, IsPlaceWithin, IsFaultOf};
 
-use crate::entry::{DeriveFault, Entry, Kept, shown_entry};
+use crate::entry::{DeriveFault, Entry, KeptEntry, shown_entry};
 use crate::follow::{Outcome, derive_by};
 use crate::truths::Truths;
 use des_base::Memory;
@@ -26,7 +26,7 @@ pub struct Ledger {
     alloc: Global,
     clauses: Clauses,
     hints: Pieces<ClauseId>,
-    entries: Vec<Kept>,
+    entries: Vec<KeptEntry>,
     truths: Truths,
 }
 
@@ -125,7 +125,7 @@ impl Ledger {
         let id = self.clauses.push_reserved(clause);
         self.hints.push_reserved(&[]);
         let number = self.clauses.number(id);
-        self.entries.push(Kept::Axiom(number)).unwrap();
+        self.entries.push(KeptEntry::Axiom(number)).unwrap();
         id
     }
 
@@ -174,7 +174,7 @@ impl Ledger {
             return Err(Memory);
         };
         self.entries.reserve(room)?;
-        self.entries.push(Kept::Mark(number)).unwrap();
+        self.entries.push(KeptEntry::Mark(number)).unwrap();
         Ok(())
     }
 
@@ -236,11 +236,11 @@ impl Ledger {
     }
 }
 
-fn kept_as(origin: Origin, number: u32) -> Kept
+fn kept_as(origin: Origin, number: u32) -> KeptEntry
     ensures { result ≡ kept number (made origin [] []) }
 {
     match origin {
-        Origin::Learnt => Kept::Learnt(number),
-        Origin::Final => Kept::Final(number),
+        Origin::Learnt => KeptEntry::Learnt(number),
+        Origin::Final => KeptEntry::Final(number),
     }
 }

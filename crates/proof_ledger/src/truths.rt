@@ -34,7 +34,7 @@ impl Model for Truths {
 
 // How a clause stands.
 #[derive(Clone, Copy)]
-pub enum Stands {
+pub enum HintStands {
     Falsified,
     Satisfied,
     Unit(Lit),
@@ -72,25 +72,25 @@ impl Front {
     }
 
     // How a clause stands of which this is known.
-    fn stands(self) -> Stands
+    fn stands(self) -> HintStands
         ensures { standing_of result ≡ front_standing self }
     {
         if self.all_false {
-            return Stands::Falsified;
+            return HintStands::Falsified;
         }
         if self.any_true {
-            return Stands::Satisfied;
+            return HintStands::Satisfied;
         }
         match self.first {
-            Some(lit) if !self.wide => Stands::Unit(lit),
-            _ => Stands::Wide,
+            Some(lit) if !self.wide => HintStands::Unit(lit),
+            _ => HintStands::Wide,
         }
     }
 }
 
 // What a hint leads to. A fault has its kind.
 #[derive(Clone, Copy)]
-pub enum Step {
+pub enum HintStep {
     Derives,
     Fails(u8),
     GoesOn,
@@ -141,7 +141,7 @@ impl Truths {
     }
 
     // The clause's literals are looked at once, from the first on.
-    fn standing(&self, clause: &[Lit]) -> Stands
+    fn standing(&self, clause: &[Lit]) -> HintStands
         ensures { standing_of result ≡ standing self.now clause.now }
     {
         let mut front = Front {
@@ -157,20 +157,20 @@ impl Truths {
     }
 
     // Follows a hint, given the clause that it names.
-    pub fn follow(&mut self, hinted: Option<&[Lit]>) -> Result<Step, Memory>
+    pub fn follow(&mut self, hinted: Option<&[Lit]>) -> Result<HintStep, Memory>
         ensures { IfOk result (λ step. (at : ℕ) → after_hint self.old at (option_copied hinted.entry) ≡ progress_of at self.new step) }
     {
         let clause = match hinted {
-            None => return Ok(Step::Fails(1)),
+            None => return Ok(HintStep::Fails(1)),
             Some(clause) => clause,
         };
         match self.standing(clause) {
-            Stands::Falsified => Ok(Step::Derives),
-            Stands::Satisfied => Ok(Step::GoesOn),
-            Stands::Wide => Ok(Step::Fails(2)),
-            Stands::Unit(lit) => {
+            HintStands::Falsified => Ok(HintStep::Derives),
+            HintStands::Satisfied => Ok(HintStep::GoesOn),
+            HintStands::Wide => Ok(HintStep::Fails(2)),
+            HintStands::Unit(lit) => {
                 self.take(lit)?;
-                Ok(Step::GoesOn)
+                Ok(HintStep::GoesOn)
             }
         }
     }

@@ -30,7 +30,7 @@ pub fn refutation_proof(
     ensures above { IfOk result (λ proof. All HasNoZero proof) }
 {
     let count = entries_to(book, last);
-    let front = Front { alloc, book, count };
+    let front = BookFront { alloc, book, count };
     let axioms = front.axioms();
     let assumed = assumptions.len() as u64;
     if assumed > u64::MAX - axioms {
@@ -66,13 +66,13 @@ fn has_number(entry: Entry, number: ClauseId) -> bool
 
 // The entries of a book up to the final one.
 #[derive(Clone, Copy)]
-struct Front<'a> {
+struct BookFront<'a> {
     alloc: Global,
     book: &'a Ledger,
     count: u64,
 }
 
-impl Front<'_> {
+impl BookFront<'_> {
     // How many axioms there are among them.
     fn axioms(&self) -> u64
         requires { self.now.count ≤ length self.now.book.now.entries }

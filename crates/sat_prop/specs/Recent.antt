@@ -5,20 +5,20 @@ use Rattle.std.specs.List.{list_any}
 use Rattle.prop_core.specs.declared.lit.Lit.{Lit}
 use Rattle.prop_core.specs.Clauses.{Clause}
 use Rattle.prop_core.specs.LiteralNumbers.{literal_number}
-use Rattle.sat_prop.specs.declared.recent.Learnt.{Learnt}
+use Rattle.sat_prop.specs.declared.recent.RecentClause.{RecentClause}
 use Rattle.sat_prop.specs.declared.recent.TheConstants.{RECENT}
 use Rattle.sat_prop.specs.declared.watch_lists.TheConstants.{NO_WATCH}
 
 -- what stands where none was learnt
-abbrev pub no_learnt : Learnt
+abbrev pub no_learnt : RecentClause
 no_learnt = record { watch = NO_WATCH; signature = 0 }
 
 -- none was learnt
-abbrev pub none_learnt : List Learnt
+abbrev pub none_learnt : List RecentClause
 none_learnt = replicate RECENT no_learnt
 
 -- One more was learnt. The oldest stands first, and is kept no longer.
-abbrev pub with_learnt : List Learnt → Learnt → List Learnt
+abbrev pub with_learnt : List RecentClause → RecentClause → List RecentClause
 with_learnt recent learnt = drop 1 recent ++ learnt ∷ []
 
 -- the bit of a literal

@@ -13,7 +13,7 @@ pub const RECENT: usize = 100;
 
 /// A learnt clause: the number of the first of its watches, if it has any, and its signature.
 #[derive(Clone, Copy)]
-pub struct Learnt {
+pub struct RecentClause {
     pub watch: u32,
     pub signature: u64,
 }
@@ -21,16 +21,16 @@ pub struct Learnt {
 /// The clauses that were learnt last, the oldest first. What is read there only says where it is worth to look.
 #[derive(Drop)]
 pub struct Recent {
-    learnt: [Learnt; RECENT],
+    learnt: [RecentClause; RECENT],
     oldest: usize,
 }
 
 impl Model for Recent {
     ghost use Rattle.std.specs.Prelude.{◌<◌, ◌++◌, List, drop, take};
-    ghost use Rattle.sat_prop.specs.declared.recent.Learnt.{Learnt};
+    ghost use Rattle.sat_prop.specs.declared.recent.RecentClause.{RecentClause};
     ghost use Rattle.sat_prop.specs.declared.recent.TheConstants.{RECENT};
 
-    ghost Value = { List Learnt };
+    ghost Value = { List RecentClause };
 
     ghost view = { λ a. drop a.oldest a.learnt ++ take a.oldest a.learnt };
 
@@ -42,7 +42,7 @@ impl Recent {
     pub fn new() -> Recent
         ensures { result ≡ none_learnt }
     {
-        let none = Learnt {
+        let none = RecentClause {
             watch: NO_WATCH,
             signature: 0,
         };
@@ -53,7 +53,7 @@ impl Recent {
     }
 
     /// The one that is kept at a place.
-    pub fn at(&self, place: usize) -> Learnt
+    pub fn at(&self, place: usize) -> RecentClause
         requires { place < RECENT }
         ensures { result ≡ slice_index_or self.now place no_learnt }
     {
@@ -62,7 +62,7 @@ impl Recent {
 
     /// Keeps one more, in the place of the oldest.
     #[tactic(auto, using(crate::proofs::Latest::put_newest))]
-    pub fn put(&mut self, learnt: Learnt)
+    pub fn put(&mut self, learnt: RecentClause)
         ensures { self.new ≡ with_learnt self.old learnt }
     {
         self.learnt[self.oldest] = learnt;

@@ -12,7 +12,7 @@ ghost use Rattle.sat_prop.specs.Watches.{IsFirstWaiting, IsLive};
 ghost use Rattle.sat_prop.specs.Watching.{AreWatched, AreVisited, IsVisiting, Visits, AreTwo, IsForcing, IsInspectedWatch, IsSubsumed, OnlyDrops, IsReplacement, IsReplaced, IsNarrow, is_part_of, no_watched, unwatched};
 
 use crate::propagator::Propagated;
-use crate::recent::{Learnt, RECENT, Recent, may_be_part, signature};
+use crate::recent::{RECENT, Recent, RecentClause, may_be_part, signature};
 use crate::standing::Stands;
 use crate::trail::Trail;
 use crate::watch_lists::WatchLists;
@@ -122,7 +122,7 @@ impl Watched {
         ensures state { IsTrailState (with_attached_clause trail.old db.now.clauses id) }
         ensures grown { Propagates (with_attached_clause trail.old db.now.clauses id) trail.new }
     {
-        let learnt = Learnt {
+        let learnt = RecentClause {
             watch: self.lists.len(),
             signature: signature(db.clause(id)),
         };
@@ -160,7 +160,7 @@ impl Watched {
     }
 
     // Those of the clauses that joined last are no longer watched that the newer one subsumes.
-    fn drop_each_subsumed(&mut self, trail: &Trail, db: &Clauses, newer: Learnt)
+    fn drop_each_subsumed(&mut self, trail: &Trail, db: &Clauses, newer: RecentClause)
         requires watched { AreWatched trail.now self.old }
         requires grown { IsFront trail.now.clauses db.now.clauses }
         ensures watched { AreWatched trail.now self.new }

@@ -17,7 +17,7 @@ returns-in-Spent-clause-asked g c =
     c.solve.ensures.goes_on c.requires.belong c.requires.best c.has_event-there.ensures c.is_built.ensures.network c.is_whole.ensures.whole.valid c.requires.known c.in_ok-answer.ensures.solved c.in-Spent.is
 
 pub decode-requires-clause-together : goal.decode-requires-clause-together
-decode-requires-clause-together g c = belong_on c.args.about.net.now c.args.about.log.now 1 c.args.parts.now c.solve.new.parts c.solve.ensures.goes_on c.requires.belong
+decode-requires-clause-together g c = belong_on c.args.question.net.now c.args.question.log.now 1 c.args.parts.now c.solve.new.parts c.solve.ensures.goes_on c.requires.belong
 
 pub decode-requires-clause-true_there : goal.decode-requires-clause-true_there
 decode-requires-clause-true_there g c =
