@@ -5,7 +5,7 @@ ghost use Rattle.log_clauses.specs.Additions.{alarm_added};
 ghost use Rattle.log_encode.specs.CodedLog.{nameless, code_after};
 ghost use Rattle.log_encode.specs.Drafted.{IsDraftOf};
 
-use crate::networks::{Case, passes_on};
+use crate::networks::{NetworkCase, passes_on};
 use crate::truths::{all_true, clauses_true, is_true};
 use des_base::{EventId, Name, VAR_LIMIT};
 use des_net::Network;
@@ -206,5 +206,5 @@ pub(super) fn tells_both(rt: &impl Abort, alloc: Global, net: &Network) -> bool 
 
 #[test]
 fn two_alarms_of_one_step(rt: HostRuntime) {
-    assert!(rt; passes_on(&rt, rt.alloc(), A_AND_B, &Case::Told));
+    assert!(rt; passes_on(&rt, rt.alloc(), A_AND_B, &NetworkCase::Told));
 }

@@ -18,7 +18,7 @@ fn network(alloc: Global, text: &str) -> Option<Network> {
 
 // What is tried on a network.
 #[derive(Drop)]
-pub(super) enum Case<'a> {
+pub(super) enum NetworkCase<'a> {
     // Runs have these steps.
     Reads(&'a [Text]),
     // Two alarms have the two events.
@@ -29,16 +29,21 @@ pub(super) enum Case<'a> {
     Behind,
 }
 
-fn passes(rt: &impl Abort, alloc: Global, net: &Network, case: &Case<'_>) -> bool {
+fn passes(rt: &impl Abort, alloc: Global, net: &Network, case: &NetworkCase<'_>) -> bool {
     match case {
-        Case::Reads(texts) => reads_all(alloc, net, texts),
-        Case::Told => tells_both(rt, alloc, net),
-        Case::AllowsFive => allows_five(rt, alloc, net),
-        Case::Behind => stands_behind_five(rt, alloc, net, &mut Clauses::new(alloc)),
+        NetworkCase::Reads(texts) => reads_all(alloc, net, texts),
+        NetworkCase::Told => tells_both(rt, alloc, net),
+        NetworkCase::AllowsFive => allows_five(rt, alloc, net),
+        NetworkCase::Behind => stands_behind_five(rt, alloc, net, &mut Clauses::new(alloc)),
     }
 }
 
-pub(super) fn passes_on(rt: &impl Abort, alloc: Global, text: &str, case: &Case<'_>) -> bool {
+pub(super) fn passes_on(
+    rt: &impl Abort,
+    alloc: Global,
+    text: &str,
+    case: &NetworkCase<'_>,
+) -> bool {
     match network(alloc, text) {
         Some(net) => {
             let passed = passes(rt, alloc, &net, case);

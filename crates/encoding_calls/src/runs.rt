@@ -1,5 +1,5 @@
 // The steps of runs, which no printed answer shows.
-use crate::networks::{Case, passes_on};
+use crate::networks::{NetworkCase, passes_on};
 use des_base::{EventId, Name};
 use des_net::Network;
 use replay::{Run, RunStep, read_run};
@@ -92,7 +92,7 @@ pub(super) fn reads_all(alloc: Global, net: &Network, rows: &[Text]) -> bool {
 
 #[test]
 fn reads_steps(rt: HostRuntime) {
-    assert!(rt; passes_on(&rt, rt.alloc(), FORK, &Case::Reads(&TEXTS)));
+    assert!(rt; passes_on(&rt, rt.alloc(), FORK, &NetworkCase::Reads(&TEXTS)));
 }
 
 const PUSHED: [Row; 1] = [(Some(7), "x1")];

@@ -9,7 +9,7 @@ ghost use Rattle.least_faults.specs.Building.{IsUnused};
 ghost use Rattle.least_faults.specs.Parts.{AreReady, BelongTo};
 ghost use Rattle.least_faults.specs.declared.TheConstants.{MOST_SIZE};
 
-use crate::models::{Case, VALVE, alarm_log, passes_on};
+use crate::models::{ModelCase, VALVE, alarm_log, passes_on};
 use cost_least::{Cheap, cheapest, cost_size};
 use des_base::{EventId, Memory};
 use des_net::Network;
@@ -24,7 +24,7 @@ use std::alloc::Global;
 
 // A question, and the least total, or none where it is above 1,000. By the text the first event has the first price, and each other
 // fault event has the second.
-pub struct Row {
+pub struct CostRow {
     log: &'static str,
     costs: &'static str,
     prices: (u32, u32),
@@ -36,7 +36,7 @@ pub struct Row {
 const TWO_WAYS: &str =
     "des 1\ncomponent c\nstate s init\nstate m\nstate t\ntrans s f t\ntrans s g m\ntrans m h t\ntrans t a t\nevent ef fault : c.f\nevent eg fault : c.g\nevent eh fault : c.h\nevent ea alarm A : c.a\n";
 
-const TWO_FAULTS_ARE_CHEAPER: Row = Row {
+const TWO_FAULTS_ARE_CHEAPER: CostRow = CostRow {
     log: "alarm,x,A\n",
     costs: "costs 1\ncost ef 10\ncost eg 2\ncost eh 2\n",
     prices: (10, 2),
@@ -45,7 +45,7 @@ const TWO_FAULTS_ARE_CHEAPER: Row = Row {
 };
 
 // There are not steps enough for two faults.
-const ONE_FAULT_IS_LEFT: Row = Row {
+const ONE_FAULT_IS_LEFT: CostRow = CostRow {
     log: "alarm,x,A\n",
     costs: "costs 1\ncost ef 10\ncost eg 2\ncost eh 2\n",
     prices: (10, 2),
@@ -54,7 +54,7 @@ const ONE_FAULT_IS_LEFT: Row = Row {
 };
 
 // The valve trips twice.
-const TWO_JAMS_ARE_DEAR: Row = Row {
+const TWO_JAMS_ARE_DEAR: CostRow = CostRow {
     log: "alarm,a1,T\nalarm,a2,F\nalarm,a3,T\nbefore,a1,a2\nbefore,a2,a3\n",
     costs: "costs 1\ncost jam 600\n",
     prices: (600, 1),
@@ -165,7 +165,7 @@ fn finds<C: Fn(u32) -> u32>(
 }
 
 // By what the text says.
-fn finds_by_table(alloc: Global, net: &Network, log: &AlarmLog, row: &Row) -> bool {
+fn finds_by_table(alloc: Global, net: &Network, log: &AlarmLog, row: &CostRow) -> bool {
     if row.costs.len() > 1000 {
         return false;
     }
@@ -198,7 +198,7 @@ fn finds_by_numbers(
     finds(alloc, net, log, steps, &costs, want)
 }
 
-fn finds_by_both(alloc: Global, net: &Network, log: &AlarmLog, row: &Row) -> bool {
+fn finds_by_both(alloc: Global, net: &Network, log: &AlarmLog, row: &CostRow) -> bool {
     finds_by_table(alloc, net, log, row)
         && is_price(row.prices.0)
         && is_price(row.prices.1)
@@ -212,7 +212,7 @@ fn is_price(price: u32) -> bool
 }
 
 // Whether it is found by both closures.
-pub fn finds_least(alloc: Global, net: &Network, row: &Row) -> bool {
+pub fn finds_least(alloc: Global, net: &Network, row: &CostRow) -> bool {
     match alarm_log(alloc, row.log) {
         Some(log) => {
             let found = finds_by_both(alloc, net, &log, row);
@@ -225,7 +225,13 @@ pub fn finds_least(alloc: Global, net: &Network, row: &Row) -> bool {
 
 #[test]
 fn finds_least_totals(rt: HostRuntime) {
-    assert!(rt; passes_on(rt.alloc(), TWO_WAYS, &Case::Least(&TWO_FAULTS_ARE_CHEAPER)));
-    assert!(rt; passes_on(rt.alloc(), TWO_WAYS, &Case::Least(&ONE_FAULT_IS_LEFT)));
-    assert!(rt; passes_on(rt.alloc(), VALVE, &Case::Least(&TWO_JAMS_ARE_DEAR)));
+    assert!(rt;
+        passes_on(
+            rt.alloc(),
+            TWO_WAYS,
+            &ModelCase::Least(&TWO_FAULTS_ARE_CHEAPER)
+        )
+    );
+    assert!(rt; passes_on(rt.alloc(), TWO_WAYS, &ModelCase::Least(&ONE_FAULT_IS_LEFT)));
+    assert!(rt; passes_on(rt.alloc(), VALVE, &ModelCase::Least(&TWO_JAMS_ARE_DEAR)));
 }

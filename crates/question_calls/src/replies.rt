@@ -2,7 +2,7 @@
 ghost use Rattle.std.specs.Prelude.{◌<◌, All, IfSome, length};
 ghost use Rattle.replay.specs.Traced.{word_of};
 
-use crate::models::{Case, passes_on};
+use crate::models::{ModelCase, passes_on};
 use des_net::Network;
 use least_faults::{Best, Found};
 use replay::{Run, Traced, read_run};
@@ -104,5 +104,5 @@ pub fn prints_new(alloc: Global, net: &Network) -> bool {
 
 #[test]
 fn appends_runs_and_what_is_undecided(rt: HostRuntime) {
-    assert!(rt; passes_on(rt.alloc(), PUMP, &Case::Prints));
+    assert!(rt; passes_on(rt.alloc(), PUMP, &ModelCase::Prints));
 }

@@ -2,7 +2,7 @@
 ghost use Rattle.std.specs.Prelude.{◌≡◌};
 ghost use Rattle.sat_order.specs.Rank.{IsRanked};
 
-use crate::models::{Case, passes_on};
+use crate::models::{ModelCase, passes_on};
 use alarm_session::{Session, SessionRefusal};
 use des_base::{EventId, Name};
 use des_net::Network;
@@ -171,5 +171,5 @@ pub fn is_answered(alloc: Global, net: &Network) -> bool {
 
 #[test]
 fn answers_call_by_call(rt: HostRuntime) {
-    assert!(rt; passes_on(rt.alloc(), LATER_ALARM_EXCUSES, &Case::Answers));
+    assert!(rt; passes_on(rt.alloc(), LATER_ALARM_EXCUSES, &ModelCase::Answers));
 }

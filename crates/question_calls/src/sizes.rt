@@ -1,5 +1,5 @@
 // Sizes of questions that were worked by hand.
-use crate::models::{Case, VALVE, alarm_log, passes_on};
+use crate::models::{ModelCase, VALVE, alarm_log, passes_on};
 use des_net::Network;
 use gen_plant::generate;
 use sizing::question_size;
@@ -82,13 +82,13 @@ fn units_have_sizes(alloc: Global) -> bool {
 
 #[test]
 fn tells_sizes(rt: HostRuntime) {
-    assert!(rt; passes_on(rt.alloc(), EMPTY, &Case::Sizes(&SIZES_OF_NOTHING)));
-    assert!(rt; passes_on(rt.alloc(), VALVE, &Case::Sizes(&SIZES_OF_VALVE)));
+    assert!(rt; passes_on(rt.alloc(), EMPTY, &ModelCase::Sizes(&SIZES_OF_NOTHING)));
+    assert!(rt; passes_on(rt.alloc(), VALVE, &ModelCase::Sizes(&SIZES_OF_VALVE)));
     assert!(rt;
         passes_on(
             rt.alloc(),
             VALVE_AND_BELL,
-            &Case::Sizes(&SIZES_OF_VALVE_AND_BELL)
+            &ModelCase::Sizes(&SIZES_OF_VALVE_AND_BELL)
         )
     );
     assert!(rt; units_have_sizes(rt.alloc()));

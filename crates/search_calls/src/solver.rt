@@ -17,7 +17,7 @@ use std::alloc::Global;
 
 // A question: the budget, how many assumptions there are, eight at most, on the first variables, their signs as bits, and whether
 // it is satisfiable, or nothing where the budget is to be spent.
-type Question = (u64, usize, u64, Option<bool>);
+type SolverQuestion = (u64, usize, u64, Option<bool>);
 
 // A budget of more conflicts than any of these takes.
 const AMPLE: u64 = 100_000;
@@ -98,7 +98,7 @@ fn is_shown(
 }
 
 // Whether a search that left so much of its budget was paid for what it has learnt, and left nothing where it is to be spent.
-fn is_paid(book: &Ledger, before: u64, question: &Question, left: u64) -> bool {
+fn is_paid(book: &Ledger, before: u64, question: &SolverQuestion, left: u64) -> bool {
     let paid = left.saturating_add(learnt_since(book, before)) == question.0;
     paid && (left == 0 || question.3.is_some())
 }
@@ -110,7 +110,7 @@ fn answers_under<R: Fn(u32) -> u64>(
     book: &mut Ledger,
     vars: u32,
     assumed: &[Lit],
-    question: &Question,
+    question: &SolverQuestion,
 ) -> bool
     requires ready { IsReady R.pre R.post solver.old book.old.entries vars }
     requires known { HasValues vars assumed.now }
@@ -142,7 +142,7 @@ fn ask<R: Fn(u32) -> u64>(
     solver: &mut Solver<R>,
     book: &mut Ledger,
     vars: u32,
-    question: &Question,
+    question: &SolverQuestion,
 ) -> bool
     requires { IsReady R.pre R.post solver.old book.old.entries vars }
     ensures { IsReady R.pre R.post solver.new book.new.entries vars }
@@ -160,7 +160,7 @@ fn ask_all<R: Fn(u32) -> u64>(
     solver: &mut Solver<R>,
     book: &mut Ledger,
     vars: u32,
-    questions: &[Question],
+    questions: &[SolverQuestion],
 ) -> bool
     requires { IsReady R.pre R.post solver.old book.old.entries vars }
     ensures { IsReady R.pre R.post solver.new book.new.entries vars }
@@ -180,8 +180,8 @@ fn answers_in_two<R: Fn(u32) -> u64>(
     book: &mut Ledger,
     vars: u32,
     clauses: &Clauses,
-    early: &[Question],
-    late: &[Question],
+    early: &[SolverQuestion],
+    late: &[SolverQuestion],
 ) -> bool
     requires { IsReady R.pre R.post solver.old book.old.entries vars }
 {
@@ -200,8 +200,8 @@ fn answers_anew<R: Fn(u32) -> u64>(
     book: &mut Ledger,
     vars: u32,
     clauses: &Clauses,
-    early: &[Question],
-    late: &[Question],
+    early: &[SolverQuestion],
+    late: &[SolverQuestion],
 ) -> bool
     requires ranked { IsRank R.pre R.post solver.old.order.rank }
     requires adopted { solver.old.adopted ≡ [] }
@@ -238,8 +238,8 @@ fn answers<R: Fn(u32) -> u64>(
     book: &mut Ledger,
     vars: u32,
     clauses: &Clauses,
-    early: &[Question],
-    late: &[Question],
+    early: &[SolverQuestion],
+    late: &[SolverQuestion],
 ) -> bool
     requires ranked { IsRank R.pre R.post order.rank }
     requires unused { order.waiting ≡ [] }
@@ -258,8 +258,8 @@ fn are_answered(
     last: bool,
     vars: u32,
     clauses: &Clauses,
-    early: &[Question],
-    late: &[Question],
+    early: &[SolverQuestion],
+    late: &[SolverQuestion],
 ) -> bool {
     let order = Order::new(alloc, |var: u32| {
         if last { var as u64 } else { (var % 2) as u64 }
@@ -281,8 +281,8 @@ fn by_each(
     ranks: &[bool],
     vars: u32,
     clauses: &Clauses,
-    early: &[Question],
-    late: &[Question],
+    early: &[SolverQuestion],
+    late: &[SolverQuestion],
 ) -> bool {
     for last in ranks {
         if !are_answered(alloc, *last, vars, clauses, early, late) {
@@ -363,9 +363,9 @@ fn formulas_of_three_literals_a_clause(rt: HostRuntime) {
 }
 
 // A formula, how many variables it has, by which ranks it is asked, and the questions.
-type Row = (Formula, u32, &'static [bool], &'static [Question]);
+type FormulaRow = (Formula, u32, &'static [bool], &'static [SolverQuestion]);
 
-static WORKED: [Row; 3] = [
+static WORKED: [FormulaRow; 3] = [
     (
         Formula::Pairs(&[]),
         2,
@@ -387,39 +387,39 @@ static WORKED: [Row; 3] = [
 ];
 
 // All pigeons but one have holes, all together don't, and then all but one do again.
-const ONE_HOLE: [Question; 3] = [
+const ONE_HOLE: [SolverQuestion; 3] = [
     (AMPLE, 1, 31, Some(true)),
     (AMPLE, 2, 31, Some(false)),
     (AMPLE, 1, 31, Some(true)),
 ];
 
-const TWO_HOLES: [Question; 3] = [
+const TWO_HOLES: [SolverQuestion; 3] = [
     (AMPLE, 2, 31, Some(true)),
     (AMPLE, 3, 31, Some(false)),
     (AMPLE, 2, 31, Some(true)),
 ];
 
-const THREE_HOLES: [Question; 3] = [
+const THREE_HOLES: [SolverQuestion; 3] = [
     (AMPLE, 3, 31, Some(true)),
     (AMPLE, 4, 31, Some(false)),
     (AMPLE, 3, 31, Some(true)),
 ];
 
-const FOUR_HOLES: [Question; 3] = [
+const FOUR_HOLES: [SolverQuestion; 3] = [
     (AMPLE, 4, 31, Some(true)),
     (AMPLE, 5, 31, Some(false)),
     (AMPLE, 4, 31, Some(true)),
 ];
 
 // A search that was cut off goes on when it is asked again.
-const SPENT: [Question; 3] = [
+const SPENT: [SolverQuestion; 3] = [
     (0, 4, 15, None),
     (1, 4, 15, None),
     (AMPLE, 4, 15, Some(false)),
 ];
 
 // One pigeon more than there are holes has no place; without it each has.
-static PIGEONS: [Row; 5] = [
+static PIGEONS: [FormulaRow; 5] = [
     (Formula::Pigeons(2, 1), 4, &[true], &ONE_HOLE),
     (Formula::Pigeons(3, 2), 9, &[true], &TWO_HOLES),
     (Formula::Pigeons(4, 3), 16, &[true], &THREE_HOLES),
@@ -428,7 +428,7 @@ static PIGEONS: [Row; 5] = [
 ];
 
 // What two sums are.
-const PARITIES: [Question; 4] = [
+const PARITIES: [SolverQuestion; 4] = [
     (AMPLE, 2, 0, Some(true)),
     (AMPLE, 2, 1, Some(false)),
     (AMPLE, 2, 2, Some(false)),
@@ -436,7 +436,7 @@ const PARITIES: [Question; 4] = [
 ];
 
 // Two sums of the same inputs are the same.
-static SUMS: [Row; 6] = [
+static SUMS: [FormulaRow; 6] = [
     (Formula::Sums(1), 7, &[false], &PARITIES),
     (Formula::Sums(2), 10, &[false], &PARITIES),
     (Formula::Sums(3), 13, &[false], &PARITIES),
@@ -445,11 +445,11 @@ static SUMS: [Row; 6] = [
     (Formula::Sums(6), 22, &[false], &PARITIES),
 ];
 
-fn answers_row(alloc: Global, row: &Row, clauses: &mut Clauses) -> bool {
+fn answers_row(alloc: Global, row: &FormulaRow, clauses: &mut Clauses) -> bool {
     put(alloc, &row.0, clauses) && by_each(alloc, row.2, row.1, clauses, &[], row.3)
 }
 
-fn answers_all(alloc: Global, rows: &[Row]) -> bool {
+fn answers_all(alloc: Global, rows: &[FormulaRow]) -> bool {
     for row in rows {
         if !answers_row(alloc, row, &mut Clauses::new(alloc)) {
             return false;

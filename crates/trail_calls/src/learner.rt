@@ -5,7 +5,7 @@ ghost use Rattle.sat_prop.specs.Quiet.{IsConflict};
 ghost use Rattle.sat_prop.specs.Changes.{IsFront};
 
 use crate::literals::{NO_0, NO_1, NO_2, YES_0, YES_1, YES_2, are, are_numbers};
-use crate::trail::{Case, attach_all, decide, passes_new};
+use crate::trail::{TrailCase, attach_all, decide, passes_new};
 use des_base::Memory;
 use prop_core::{ClauseId, Clauses, Lit};
 use sat_learn::{Learner, Learnt};
@@ -95,5 +95,5 @@ pub fn learns_by_one(alloc: Global, propagator: &mut Propagator, db: &mut Clause
 
 #[test]
 fn learns_and_closes(rt: HostRuntime) {
-    assert!(rt; passes_new(rt.alloc(), &Case::Learns));
+    assert!(rt; passes_new(rt.alloc(), &TrailCase::Learns));
 }

@@ -33,9 +33,9 @@ fn takes<R: Fn(u32) -> u64>(order: &mut Order<R>, var: u32) -> bool
 }
 
 // A step: it grows to so many variables (+), or this variable is put back (<) or taken (>).
-type Step = (char, u32);
+type OrderStep = (char, u32);
 
-fn does<R: Fn(u32) -> u64>(order: &mut Order<R>, step: &Step) -> bool
+fn does<R: Fn(u32) -> u64>(order: &mut Order<R>, step: &OrderStep) -> bool
     requires { IsRank R.pre R.post order.old.rank }
     ensures { IsRank R.pre R.post order.new.rank }
 {
@@ -46,7 +46,7 @@ fn does<R: Fn(u32) -> u64>(order: &mut Order<R>, step: &Step) -> bool
     }
 }
 
-fn does_all<R: Fn(u32) -> u64>(order: &mut Order<R>, steps: &[Step]) -> bool
+fn does_all<R: Fn(u32) -> u64>(order: &mut Order<R>, steps: &[OrderStep]) -> bool
     requires { IsRank R.pre R.post order.old.rank }
 {
     for step in steps {
@@ -58,7 +58,7 @@ fn does_all<R: Fn(u32) -> u64>(order: &mut Order<R>, steps: &[Step]) -> bool
 }
 
 // By rank and then by number. A variable that waits is put back, too, and one that was taken.
-static BY_RANK: [Step; 9] = [
+static BY_RANK: [OrderStep; 9] = [
     ('+', 7),
     ('<', 6),
     ('>', 2),
@@ -70,7 +70,7 @@ static BY_RANK: [Step; 9] = [
     ('>', 1),
 ];
 
-static LAST_FIRST: [Step; 3] = [('+', 2), ('>', 1), ('>', 0)];
+static LAST_FIRST: [OrderStep; 3] = [('+', 2), ('>', 1), ('>', 0)];
 
 // The ranks of these variables, and of more.
 static RANKS: [u64; 9] = [0, 1, 2, 0, 1, 2, 0, 1, 2];
@@ -81,7 +81,13 @@ fn goes_on<R: Fn(u32) -> u64>(order: &mut Order<R>, ranks: &[u64], next: Option<
 }
 
 // Whether all steps can be done by a new order, where the last variable comes first, or else by the number modulo 3.
-fn takes_all(alloc: Global, last: bool, steps: &[Step], ranks: &[u64], next: Option<u32>) -> bool {
+fn takes_all(
+    alloc: Global,
+    last: bool,
+    steps: &[OrderStep],
+    ranks: &[u64],
+    next: Option<u32>,
+) -> bool {
     let mut order = Order::new(alloc, |var: u32| {
         if last { var as u64 } else { (var % 3) as u64 }
     });

@@ -129,9 +129,9 @@ fn are_facts(trail: &Trail, facts: &[Fact]) -> bool {
 }
 
 // A literal that is decided, or else the level to go back to; how many literals are true then, and some facts.
-type Step = (Option<Lit>, u32, u32, &'static [Fact]);
+type TrailStep = (Option<Lit>, u32, u32, &'static [Fact]);
 
-fn goes(propagator: &mut Propagator, db: &Clauses, vars: u32, step: &Step) -> bool
+fn goes(propagator: &mut Propagator, db: &Clauses, vars: u32, step: &TrailStep) -> bool
     requires front { IsFront propagator.old.clauses db.now.clauses }
     requires vars { propagator.old.vars ≡ vars }
     ensures front { IsFront propagator.new.clauses db.now.clauses }
@@ -144,7 +144,7 @@ fn goes(propagator: &mut Propagator, db: &Clauses, vars: u32, step: &Step) -> bo
 }
 
 // Whether all steps can be gone, each until nothing is left to do.
-fn goes_all(propagator: &mut Propagator, db: &Clauses, vars: u32, steps: &[Step]) -> bool
+fn goes_all(propagator: &mut Propagator, db: &Clauses, vars: u32, steps: &[TrailStep]) -> bool
     requires front { IsFront propagator.old.clauses db.now.clauses }
     requires vars { propagator.old.vars ≡ vars }
 {
@@ -156,7 +156,7 @@ fn goes_all(propagator: &mut Propagator, db: &Clauses, vars: u32, steps: &[Step]
     true
 }
 
-fn is_so(trail: &Trail, step: &Step) -> bool {
+fn is_so(trail: &Trail, step: &TrailStep) -> bool {
     trail.len() == step.2 && are_facts(trail, step.3)
 }
 
@@ -183,7 +183,7 @@ fn goes_back(propagator: &mut Propagator) -> bool {
 static TWO: [&[Lit]; 2] = [&[NO_1, YES_2], &[NO_3, NO_2, NO_3]];
 
 // Nothing is forced at first. The decision of 1 forces a literal by each clause.
-static FORCED: [Step; 2] = [
+static FORCED: [TrailStep; 2] = [
     (None, 0, 0, &[]),
     (
         Some(YES_1),
@@ -220,7 +220,7 @@ fn conflicts(propagator: &mut Propagator, db: &mut Clauses) -> bool
 static THREE_AND_FOUR: [&[Lit]; 2] = [&[YES_0, YES_1, YES_2], &[NO_2, YES_0, YES_3, YES_4]];
 
 // Each literal of three that becomes false lets the last one be forced, whichever it is, also after going back.
-static LOOKS: [Step; 8] = [
+static LOOKS: [TrailStep; 8] = [
     (Some(NO_0), 0, 1, &[(0, Some(false), 0)]),
     (Some(NO_1), 0, 3, &[(2, Some(true), 1)]),
     (Some(NO_4), 0, 5, &[(3, Some(true), 2)]),
@@ -271,7 +271,7 @@ fn joins_two(propagator: &mut Propagator, db: &Clauses, vars: u32) -> bool
 static WIDER_AND_PART: [&[Lit]; 2] = [&[YES_0, YES_1, YES_2], &[YES_2, YES_0]];
 
 // Both clauses force the last literal, and the first of them came to be watched there before the other: but it isn't watched any more.
-static BY_PART: [Step; 2] = [
+static BY_PART: [TrailStep; 2] = [
     (Some(NO_1), 0, 1, &[(0, None, 0), (2, None, 0)]),
     (Some(NO_0), 0, 3, &[(2, Some(true), 2)]),
 ];
@@ -286,7 +286,7 @@ fn subsumes(propagator: &mut Propagator, db: &mut Clauses) -> bool
 }
 
 // What a new propagator is tried on.
-pub enum Case {
+pub enum TrailCase {
     Forced,
     Conflict,
     Looks,
@@ -294,19 +294,19 @@ pub enum Case {
     Learns,
 }
 
-fn passes(alloc: Global, case: &Case, propagator: &mut Propagator, db: &mut Clauses) -> bool
+fn passes(alloc: Global, case: &TrailCase, propagator: &mut Propagator, db: &mut Clauses) -> bool
     requires { propagator.old ≡ record { clauses = []; attached = []; literals = []; reasons = []; vars = 0; spare = 0 } }
 {
     match case {
-        Case::Forced => propagates(propagator, db),
-        Case::Conflict => conflicts(propagator, db),
-        Case::Looks => looks(propagator, db),
-        Case::Subsumes => subsumes(propagator, db),
-        Case::Learns => learns_by_one(alloc, propagator, db),
+        TrailCase::Forced => propagates(propagator, db),
+        TrailCase::Conflict => conflicts(propagator, db),
+        TrailCase::Looks => looks(propagator, db),
+        TrailCase::Subsumes => subsumes(propagator, db),
+        TrailCase::Learns => learns_by_one(alloc, propagator, db),
     }
 }
 
-pub fn passes_new(alloc: Global, case: &Case) -> bool {
+pub fn passes_new(alloc: Global, case: &TrailCase) -> bool {
     passes(
         alloc,
         case,
@@ -317,16 +317,16 @@ pub fn passes_new(alloc: Global, case: &Case) -> bool {
 
 #[test]
 fn propagates_and_goes_back(rt: HostRuntime) {
-    assert!(rt; passes_new(rt.alloc(), &Case::Forced));
-    assert!(rt; passes_new(rt.alloc(), &Case::Looks));
+    assert!(rt; passes_new(rt.alloc(), &TrailCase::Forced));
+    assert!(rt; passes_new(rt.alloc(), &TrailCase::Looks));
 }
 
 #[test]
 fn finds_a_conflict(rt: HostRuntime) {
-    assert!(rt; passes_new(rt.alloc(), &Case::Conflict));
+    assert!(rt; passes_new(rt.alloc(), &TrailCase::Conflict));
 }
 
 #[test]
 fn takes_a_reason_that_subsumes(rt: HostRuntime) {
-    assert!(rt; passes_new(rt.alloc(), &Case::Subsumes));
+    assert!(rt; passes_new(rt.alloc(), &TrailCase::Subsumes));
 }
