@@ -57,7 +57,7 @@ def levels(stands):
 
 
 def is_test(name):
-    return name.endswith("_calls")
+    return name.startswith("calls_")
 
 
 # ---- in text
