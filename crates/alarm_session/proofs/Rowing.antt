@@ -1,4 +1,4 @@
--- What rows tell: each by what its addition answers or what is found, and some by what one more tells.
+-- What comes of rows: of each by what its addition answers or what is found, and of some by what comes of one more.
 use Rattle.std.proofs.Common.{◌≡◌, ◌≢◌, ◌∙◌, ℕ, Bool, true, false, not, cond, List, [], ◌∷◌, ◌++◌, Option, None, Some, inl, Result, Ok, Err, IfOk, OnOk, OnErr, is_some, refl, sym, ap, subst, append-nil, append_assoc, arith, length, length-append, map}
 use Rattle.alarm_session.proofs.Keeping.{adds_none}
 use Rattle.alarm_session.specs.Additions.{built_on}

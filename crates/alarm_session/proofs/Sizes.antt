@@ -1,4 +1,4 @@
--- The size of a question whose log gets an alarm or a pair more, and that the names of alarms don't matter for it.
+-- The size of a question whose log gets a further alarm or pair, and that the names of alarms don't matter for it.
 use Rattle.std.proofs.Common.{◌≡◌, ◌∙◌, ℕ, zero, suc, ◌+◌, ◌*◌, ◌^◌, Bool, cond, List, [], ◌∷◌, ◌++◌, length, map, count_by, sum_by, refl, sym, ap, arith, length-append, option_map, slice_get, unwrap_or}
 use Rattle.alarm_session.specs.Labelled.{labelled_count}
 use Rattle.des_base.specs.Lists.{numbers_below}

@@ -1,4 +1,4 @@
--- What the book of a session tells: it is lean, and its axioms pose the question of the log.
+-- What is true of a session's book: it is lean, and its axioms pose the question of the log.
 use Rattle.std.proofs.Common.{◌≡◌, ◌∙◌, ℕ, ◌+◌, ◌*◌, List, length, None, sym, ap, subst, arith, append-nil}
 use Rattle.std.proofs.Math.Nat.{mul-le-mul_right}
 use Rattle.alarm_session.proofs.Sizes.{nameless_sizes}

@@ -29,7 +29,7 @@ abbrev pub refusal_with : Option LogRefusal → ℕ → Option SessionRefusal
 refusal_with None size = large_refusal size
 refusal_with (Some refusal) size = Some (refusal_of refusal)
 
--- the number by which a refusal is told; want of memory, which isn't told, has 0
+-- the number that is printed for a refusal; `Memory`, which isn't printed, has 0
 abbrev pub refusal_number : SessionRefusal → ℕ
 refusal_number Double = 1
 refusal_number Unknown = 2

@@ -54,7 +54,7 @@ row_addition log (Maybe id labels) = Some (alarm_addition labels true)
 row_addition log (Before first second) = pair_addition log (numbers_of log first second)
 row_addition log Ask = None
 
--- with a row that is accepted: with what it adds, and where it asks with so many columns more
+-- with a row that is accepted: with what it adds, and where it asks with this many further columns
 abbrev pub built_with_row : Log → BuiltQuestion → Row → ℕ → BuiltQuestion
 built_with_row log question (Alarm id labels) columns = built_on question (row_addition log (Alarm id labels))
 built_with_row log question (Maybe id labels) columns = built_on question (row_addition log (Maybe id labels))
@@ -74,7 +74,7 @@ rows_built net n log question (row ∷ rows) columns = rows_built net n (after_r
 abbrev pub script_built : Net → ℕ → List Row → List ℕ → BuiltQuestion
 script_built net n rows columns = rows_built net n no_log (question_built net no_log n 0) rows columns
 
--- ---- what a row tells
+-- ---- what comes of a row
 
 -- The row is an addition that nothing is against. It is made: a few axioms were put, or nothing where it is in the log already.
 pub record IsAdditionMade (net : Net) (n : ℕ) (old : Stage) (row : Row) (new : Stage) : Type 0 where
@@ -83,7 +83,7 @@ pub record IsAdditionMade (net : Net) (n : ℕ) (old : Stage) (row : Row) (new :
   pub few : AddsFew net n old.log (with_row old.log row) old.book new.book
   pub again : with_row old.log row ≡ old.log → new ≡ old
 
--- The row is refused for this, which isn't want of memory, and all is as it was.
+-- The row is refused for this, which isn't `Memory`, and all is as it was.
 pub record IsRefused (net : Net) (n : ℕ) (old : Stage) (row : Row) (new : Stage) (refusal : SessionRefusal) : Type 0 where
   pub why : row_refusal net n old.log row ≡ Some refusal
   pub known : refusal ≢ Memory
@@ -127,7 +127,7 @@ told_by (Err Limit) = Ok (Refused Limit)
 told_by (Err (TooLarge size)) = Ok (Refused (TooLarge size))
 told_by (Err Memory) = Err (record {})
 
--- ---- what all rows tell
+-- ---- what comes of all rows
 
 -- The rows told these one after another, each where the session had come to by those before it.
 abbrev pub AreRowsTold : Net → ℕ → ℕ → Stage → List Row → Stage → List RowTold → Type 0
@@ -135,7 +135,7 @@ AreRowsTold net n budget old [] new told = (new ≡ old) × (told ≡ [])
 AreRowsTold net n budget old (row ∷ rows) new told =
     (mid : Stage) × (here : RowTold) × (rest : List RowTold) × IsRowTold net n budget old row mid here × AreRowsTold net n budget mid rows new rest × (told ≡ here ∷ rest)
 
--- A session carried out these rows from its beginning, which told these, and came so far. Its log is that of all the rows, and its question is the one that network, n, rows and numbers of columns determine.
+-- A session carried out these rows from its beginning, with these outcomes, and came so far. Its log is that of all the rows, and its question is the one that network, n, rows and numbers of columns determine.
 -- The book goes on from the axioms of the empty log's question. It has the axioms of the question that it came to, as a list, is valid and lean, and asks what explains the log.
 pub record HasCarriedOut (net : Net) (n budget : ℕ) (rows : List Row) (left : Stage) (told : List RowTold) : Type 0 where
   pub each : AreRowsTold net n budget (first_stage net n) rows left told

@@ -82,7 +82,7 @@ pub record IsAtFirstStage {R : Type 0} (net : Net) (n : ℕ) (rank : R) (kept : 
 
 -- ---- what each call leaves
 
--- so does a session begin
+-- a session begins like this
 pub record BeginsAs {R : Type 0} (net : Net) (n : ℕ) (rank : R) (session : SessionState R) : Type 0 where
   pub net_is : session.net ≡ net
   pub steps : session.steps ≡ n
@@ -130,7 +130,7 @@ pub record Poses (net : Net) (log : Log) (n : ℕ) (book : List BookEntry) : Typ
 abbrev pub IsLean : List BookEntry → Net → Log → ℕ → Type 0
 IsLean book net log n = length (axioms_of book) ≤ 12 * (question_size net log n + component_sizes net + length log.alarms + length log.pairs) + 512
 
--- What a session's book tells. Its axioms are, as a list, those of the question as it is built.
+-- What a session's book says. Its axioms are, as a list, those of the question as it is built.
 pub record IsSessionBook (net : Net) (n : ℕ) (stage : Stage) : Type 0 where
   pub axioms : axioms_of stage.book ≡ stage.built.axioms
   pub poses : Poses net stage.log n stage.book

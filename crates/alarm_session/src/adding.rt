@@ -55,7 +55,7 @@ pub fn put_alarm<R: Fn(u32) -> u64>(
     }
 }
 
-// Drafts an alarm, where neither the log nor the size refuses it.
+// Drafts an alarm, unless the log or the size refuses it.
 fn draft_alarm<R: Fn(u32) -> u64>(
     setting: Setting<'_>,
     id: &Name,
@@ -117,7 +117,7 @@ fn numbers_of(log: &AlarmLog, first: &Name, second: &Name) -> Option<(u32, u32)>
     Some((first, second))
 }
 
-// Adds a pair of alarms to the log and to the parts and the book of its question: to all or to none. Where it is there
+// Adds a pair of alarms to the log and to the parts and the book of its question: to all or to none. If it is there
 // already, nothing changes.
 fn put_pair<R: Fn(u32) -> u64>(
     setting: Setting<'_>,
@@ -143,7 +143,7 @@ fn put_pair<R: Fn(u32) -> u64>(
     put_new_pair(setting, first, second, kept)
 }
 
-// The same of a pair that the log accepts and that isn't there.
+// The same for a new pair that the log accepts.
 fn put_new_pair<R: Fn(u32) -> u64>(
     setting: Setting<'_>,
     first: u32,
@@ -178,7 +178,7 @@ fn put_new_pair<R: Fn(u32) -> u64>(
     }
 }
 
-// Drafts it, where the size doesn't refuse it.
+// Drafts it, unless the size refuses it.
 fn draft_pair<R: Fn(u32) -> u64>(
     setting: Setting<'_>,
     first: u32,

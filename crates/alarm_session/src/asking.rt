@@ -37,7 +37,7 @@ pub fn begin<T: Fn(u32, u32) -> bool, R: Fn(u32) -> u64>(
     ensures kept { IfOk result (IsRankedKept R.pre R.post setting.entry.net.now setting.entry.steps) }
     ensures begun { IfOk result (IsAtFirstStage setting.entry.net.now setting.entry.steps rank.rank) }
 {
-    // (What isn't kept is let go by calls: exits that do so by themselves are dear to prove.)
+    // (What isn't kept is dropped by calls: implicit drops at an exit are expensive to prove.)
     let log = AlarmLog::new(setting.alloc);
     let size = question_size(setting.net, &log, setting.steps);
     if size > MOST_SIZE {
@@ -94,7 +94,7 @@ pub fn ask_kept<R: Fn(u32) -> u64>(
         &mut kept.book,
         budget,
     )?;
-    // Its reader tells that the book is valid.
+    // The contract of `entries` says that the book is valid.
     let _entries = kept.book.entries();
     Ok(found)
 }

@@ -4,7 +4,7 @@
 //! is tried first, by the log and by the size of the question; then all memory is taken; and then it joins log, clauses,
 //! solver and book, or none of them. A question goes on with all that earlier ones have learnt.
 //!
-//! How large its question is, it keeps and counts on, addition by addition.
+//! It keeps the size of its question up to date, addition by addition.
 #![tactic(auto)]
 
 mod adding;

@@ -6,7 +6,7 @@ ghost use Rattle.alarm_session.specs.declared.refusal.SessionRefusal.TheVariants
 use des_base::Memory;
 use log_order::LogRefusal;
 
-/// Why a session made nothing of a call. Where several hold, the first is answered; `Memory` may come in place of any.
+/// Why a call on a session changed nothing. If several hold, the first is answered; `Memory` may come in place of any.
 #[derive(Clone, Copy, Debug, PartialEq, Eq)]
 pub enum SessionRefusal {
     /// An alarm has the id.
@@ -26,7 +26,7 @@ pub enum SessionRefusal {
 }
 
 impl SessionRefusal {
-    /// The number by which it is told. A row is refused by the lowest that holds of it: 1 to 5, or 8. Want of memory has 0.
+    /// The number that is printed for it. A row is refused by the lowest that holds of it: 1 to 5, or 8. `Memory` has 0.
     pub fn number(self) -> u32
         ensures { result ≡ refusal_number self }
     {

@@ -1,4 +1,4 @@
-// The rows of a script: what each of them tells, and how it is carried out.
+// The rows of a script: what comes of each, and how it is carried out.
 ghost use Rattle.std.specs.Prelude.{◌≡◌, IfOk, OnOk, OnErr};
 ghost use Rattle.des_base.specs.Refusing.{SucceedsUnless};
 ghost use Rattle.alarm_session.specs.Rows.{IsLeftUndone, IsRowTold, row_addition, row_refusal, told_by, with_row};
@@ -14,14 +14,14 @@ use least_faults::Found;
 use log_csv::Row;
 use log_order::Certainty;
 
-/// What a row of a script tells.
+/// What came of a row of a script.
 #[derive(Drop)]
 pub enum RowTold {
     /// The addition was made.
     Made,
-    /// The addition was refused for this, which isn't want of memory.
+    /// The addition was refused for this, which isn't `Memory`.
     Refused(SessionRefusal),
-    /// This was found of the log so far.
+    /// This was found for the log so far.
     Answered(Found),
 }
 

@@ -31,7 +31,7 @@ use std::marker::Model;
 
 /// A log that grows, and questions about it, over one book that keeps what each question found.
 ///
-/// Alarms and pairs are added one by one, and each question is about the log so far. Nothing is begun anew: the clauses of an
+/// Alarms and pairs are added one by one, and each question is about the log so far. Nothing starts over: the clauses of an
 /// addition join those that are there, and a question goes on with what earlier ones learnt.
 #[derive(Drop)]
 pub struct Session<'a, R> {
@@ -80,7 +80,7 @@ impl<'a, R: Fn(u32) -> u64> Session<'a, R> {
         Ok(Session { setting, kept })
     }
 
-    /// Adds an alarm, and answers its number. A refusal leaves log, book and answers as they were.
+    /// Adds an alarm, and returns its number. A refusal leaves log, book and answers as they were.
     pub fn alarm(&mut self, id: Name, labels: &[Name]) -> Result<u32, SessionRefusal>
         requires ranked { IsRanked R.pre R.post self.old.order }
         ensures ranked { IsRanked R.pre R.post self.new.order }
@@ -93,7 +93,7 @@ impl<'a, R: Fn(u32) -> u64> Session<'a, R> {
         put_alarm(self.setting, id, labels, Certainty::Certain, &mut self.kept)
     }
 
-    /// Adds an alarm that is perhaps false, and answers its number. A refusal leaves log, book and answers as they were.
+    /// Adds an alarm that is perhaps false, and returns its number. A refusal leaves log, book and answers as they were.
     pub fn maybe(&mut self, id: Name, labels: &[Name]) -> Result<u32, SessionRefusal>
         requires ranked { IsRanked R.pre R.post self.old.order }
         ensures ranked { IsRanked R.pre R.post self.new.order }
@@ -112,7 +112,7 @@ impl<'a, R: Fn(u32) -> u64> Session<'a, R> {
         )
     }
 
-    /// Adds a pair of alarms, "the first before the second": true where it is new. A pair that is there already changes
+    /// Adds a pair of alarms, "the first before the second": true if it is new. A pair that is there already changes
     /// nothing. A refusal leaves log, book and answers as they were.
     pub fn before(&mut self, first: &Name, second: &Name) -> Result<bool, SessionRefusal>
         requires ranked { IsRanked R.pre R.post self.old.order }
@@ -129,7 +129,7 @@ impl<'a, R: Fn(u32) -> u64> Session<'a, R> {
 
     /// The least number of faults that explains the log so far, by a search that may learn as many clauses as the budget says.
     ///
-    /// After want of memory the log is as it was, and the session goes on. The book may have grown: by a mark 0 that opens the question, and
+    /// If memory runs out, the log is as it was, and the session can go on. The book may have grown: by a mark 0 that opens the question, and
     /// no mark that closes it.
     pub fn ask(&mut self, budget: u64) -> Result<Found, Memory>
         requires ranked { IsRanked R.pre R.post self.old.order }

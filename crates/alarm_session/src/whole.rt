@@ -1,4 +1,4 @@
-// What readers tell of a network, a log and a book.
+// What the contracts of getters say of a network, a log and a book.
 ghost use Rattle.alarm_session.specs.Session.{IsKept, IsSessionBook, stage_of};
 
 use crate::kept::{Kept, Setting};

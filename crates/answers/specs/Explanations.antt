@@ -1,4 +1,4 @@
--- What an answer tells of its run, whoever found it.
+-- What an answer says of its run, whoever found it.
 use Rattle.std.specs.Prelude.{◌≡◌, ℕ}
 use Rattle.des_net.specs.Network.{Net}
 use Rattle.log_order.specs.Log.{Log}

@@ -5,8 +5,8 @@
 //! - [`Cheap`], of the least total cost, with a run that is [`Priced`].
 //! - [`Twin`], of two runs that look alike.
 //!
-//! The crate that searches for an answer says what it means and what shows it, and gives the type out as its own: `least_faults`, `fault_verdicts`,
-//! `cost_least` and `twin_test`. A text of an answer needs only its type.
+//! The crate that searches for an answer says what it means and what shows it, and re-exports the type: `least_faults`, `fault_verdicts`,
+//! `cost_least` and `twin_test`. Whoever prints an answer needs only its type.
 #![tactic(auto)]
 
 mod cheap;

@@ -8,7 +8,7 @@ pub enum Verdict {
     Certain,
     /// None of them has it.
     Excluded,
-    /// Some have it and some haven't. This one has it exactly where the one that was known hasn't.
+    /// Some have it and some don't. This one has it exactly if the one that was known doesn't.
     Possible(Run),
     /// The budget was spent.
     Open,

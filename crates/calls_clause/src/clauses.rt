@@ -18,7 +18,7 @@ static NUMBERED: [Numbered; 5] = [
     (1_073_741_823, true, 2_147_483_647),
 ];
 
-// Whether a literal says so.
+// Whether a literal has this variable and this sign.
 fn has(lit: Lit, var: u32, positive: bool) -> bool {
     lit.var() == var && lit.is_positive() == positive
 }

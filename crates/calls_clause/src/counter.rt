@@ -42,8 +42,8 @@ fn is_assumed(bits: u64, assumed: Option<Lit>) -> bool {
     }
 }
 
-// The truths of the masked variables that some truth of all so many variables extends, by which the clauses are true, and this
-// literal: as a set of numbers below 64.
+// The truths of the masked variables that extend to a truth of all `vars` variables by which the clauses and this literal are
+// true: as a set of numbers below 64.
 fn possible(out: &Clauses, vars: u32, mask: u64, assumed: Option<Lit>) -> u64 {
     let mut set = 0_u64;
     for bits in 0..1u64 << vars.min(16) {
@@ -64,7 +64,7 @@ fn count(literals: &[Lit], bits: u64) -> u32 {
     count
 }
 
-// The truths of the masked variables by which at most so many of the literals are true.
+// The truths of the masked variables by which at most `most` of the literals are true.
 fn few(literals: &[Lit], mask: u64, most: u32) -> u64 {
     let mut set = 0_u64;
     for bits in 0..64_u64 {
@@ -75,7 +75,7 @@ fn few(literals: &[Lit], mask: u64, most: u32) -> u64 {
     set
 }
 
-// Whether each bound can hold just where so few inputs are true, and the clauses can hold by all truths of the inputs.
+// Whether each bound can hold exactly if at most that many inputs are true, and the clauses can hold by every truth of the inputs.
 fn are_bounded(counter: &Counter, out: &Clauses, inputs: &[Lit], vars: u32, mask: u64) -> bool {
     for k in 0..counter.columns() {
         if possible(out, vars, mask, Some(counter.bound_lit(k))) != few(inputs, mask, k) {
@@ -108,7 +108,7 @@ fn adds_columns(counter: &mut Counter, vars: &mut Vars, out: &mut Clauses, colum
     true
 }
 
-// Whether a counter, by so many columns, says what the number of its inputs is. Their variables are all that there are.
+// Whether a counter with this many further columns counts its inputs rightly. There are no other variables.
 fn tells(
     counter: &mut Counter,
     vars: &mut Vars,
@@ -124,7 +124,7 @@ fn tells(
         && are_bounded(counter, out, inputs, vars.count(), mask)
 }
 
-// Whether a counter of these inputs does, whose variables are the first ones.
+// Whether a counter of these inputs does, if their variables are the first ones.
 fn counts(alloc: Global, inputs: &[Lit], made: u32, columns: u32) -> bool {
     if made > 6 || !are_below(inputs, made) {
         return false;
@@ -185,7 +185,8 @@ static EXCLUDED: [Excluded; 9] = [
     (&[YES_0, NO_0, YES_1, YES_2, YES_3], 11, 10),
 ];
 
-// Whether there are so many, and the clauses can be made true just where at most one input is.
+// Whether there are as many clauses and variables as the row says, and the clauses can be made true exactly if at most
+// one input is.
 fn is_excluded(vars: u32, out: &Clauses, row: &Excluded) -> bool {
     vars == row.2 && out.len() == row.1 && possible(out, vars, 63, None) == few(row.0, 63, 1)
 }

@@ -26,7 +26,7 @@ fn is_told(answer: Result<ClauseId, DeriveFault>, number: u64, place: u32, code:
     }
 }
 
-// Whether the clause {2} is so derived.
+// Whether deriving the clause {2} gives this.
 fn derives(ledger: &mut Ledger, hints: &[ClauseId], number: u64, place: u32, code: u8) -> bool
     requires { length hints.now < 2 ^ 32 }
 {

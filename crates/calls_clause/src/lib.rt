@@ -1,6 +1,6 @@
 //! What only calls can show of propositional logic, counters, the ledger, and the refutations that it holds.
 //!
-//! It has nothing but tests, each through what a crate offers to all. What the program itself can show stands in `cases/`.
+//! It has nothing but tests, each through the public interface of a crate. What the program itself can show stands in `cases/`.
 #![tactic(auto)]
 
 #[cfg(test)]

@@ -1,4 +1,4 @@
--- What a code is after additions: of a network, within so many steps, below so many variables, with so many alarms.
+-- What is known of a code after additions: its network, its steps, the variable that comes next, and how many alarms it has.
 use Rattle.std.specs.Prelude.{◌≡◌, ℕ, length}
 use Rattle.des_net.specs.Network.{Net}
 use Rattle.log_encode.specs.CodedLog.{CodedLog}

@@ -1,5 +1,5 @@
-// Small networks, as model texts, and what is tried on them. They are read in one function, since each that owns a network is dear
-// to prove.
+// Small networks, as model texts, and what is tried on them. They are read in one function, since each one that owns a network is
+// expensive to prove.
 use crate::logs::tells_both;
 use crate::runs::{Text, reads_all};
 use crate::steps::{allows_five, stands_behind_five};

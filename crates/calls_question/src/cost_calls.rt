@@ -22,7 +22,7 @@ use sat_order::Order;
 use sat_solve::Solver;
 use std::alloc::Global;
 
-// A question, and the least total, or none where it is above 1,000. By the text the first event has the first price, and each other
+// A question, and the least total, or none if it is above 1,000. By the text the first event has the first price, and each other
 // fault event has the second.
 pub struct CostRow {
     log: &'static str,

@@ -12,7 +12,7 @@ use proof_ledger::Ledger;
 use sat_order::Order;
 use std::alloc::Global;
 
-// A later alarm tells that there was no fault.
+// A later alarm shows that there was no fault.
 const LATER_ALARM_EXCUSES: &str =
     "des 1\ncomponent c\nstate s0 init\nstate s1\nstate s2\ntrans s0 y s1\ntrans s1 x s2\ntrans s0 f s1\nevent ey alarm B : c.y\nevent ex alarm A : c.x\nevent ef fault : c.f\n";
 
@@ -106,7 +106,7 @@ fn orders<R: Fn(u32) -> u64>(
     }
 }
 
-// Whether so many faults explain the log.
+// Whether this is the least number of faults that explains the log.
 fn takes<R: Fn(u32) -> u64>(session: &mut Session<'_, R>, want: u32) -> bool
     requires ranked { IsRanked R.pre R.post session.old.order }
     ensures ranked { IsRanked R.pre R.post session.new.order }
@@ -117,7 +117,7 @@ fn takes<R: Fn(u32) -> u64>(session: &mut Session<'_, R>, want: u32) -> bool
     }
 }
 
-// A later alarm tells that there was no fault.
+// A later alarm shows that there was no fault.
 fn excuses<R: Fn(u32) -> u64>(alloc: Global, session: &mut Session<'_, R>) -> bool
     requires ranked { IsRanked R.pre R.post session.old.order }
     ensures ranked { IsRanked R.pre R.post session.new.order }

@@ -4,7 +4,7 @@ use Rattle.proof_ledger.specs.Book.{BookEntry, clauses_of}
 use Rattle.sat_order.specs.Rank.{IsRank}
 use Rattle.sat_solve.specs.Solving.{SolverState}
 
--- its closure ranks, it has adopted all clauses of the book, and it has so many variables
+-- its closure ranks, it has adopted all clauses of the book, and it has `vars` variables
 pub record IsReady {R : Type 0} (may : R → ℕ → Type 0) (gives : R → ℕ → ℕ → Type 0) (solver : SolverState R) (book : List BookEntry) (vars : ℕ) : Type 0 where
   pub ranked : IsRank may gives solver.order.rank
   pub adopted : solver.adopted ≡ clauses_of book

@@ -169,9 +169,9 @@ fn pairs(signs: &[(bool, bool)], clauses: &mut Clauses) -> bool {
 pub enum Formula {
     // Clauses of two variables.
     Pairs(&'static [(bool, bool)]),
-    // So many pigeons and holes.
+    // This many pigeons and holes.
     Pigeons(u32, u32),
-    // Sums of so many inputs.
+    // Sums of this many inputs.
     Sums(u32),
 }
 

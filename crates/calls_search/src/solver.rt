@@ -103,7 +103,7 @@ fn is_paid(book: &Ledger, before: u64, question: &SolverQuestion, left: u64) -> 
     paid && (left == 0 || question.3.is_some())
 }
 
-// Whether the solver answers the question rightly under these assumptions, shows the answer, and was paid for it.
+// Whether the solver answers the question rightly under these assumptions, shows the answer, and paid for it.
 fn answers_under<R: Fn(u32) -> u64>(
     alloc: Global,
     solver: &mut Solver<R>,

@@ -72,7 +72,7 @@ fn compares_names(rt: HostRuntime) {
     assert!(rt; all_compare(rt.alloc(), &ORDERS));
 }
 
-// Adds a name that isn't there, and tells its place.
+// Adds a name that isn't there, and returns its place.
 fn add(table: &mut NameTable, name: Name) -> Option<u32> {
     if table.find(name.as_str().as_bytes()).is_some() || table.len() > 9 {
         return None;
@@ -118,7 +118,7 @@ fn begins(line: &Line<'_>, start: usize, text: &[u8]) -> bool {
     is_token(ahead, start, text) && is_token(tokens.next_token(), start, text)
 }
 
-// The first token from a place on: where it begins and its text, which is empty where there is none.
+// The first token from a place on: where it begins and its text, which is empty if there is none.
 static TOKENS: [(usize, usize, &[u8]); 9] = [
     (0, 1, b"ab"),
     (1, 1, b"ab"),
@@ -232,7 +232,7 @@ fn puts_all(sink: &mut MemSink) -> bool {
     true
 }
 
-// Nothing is reserved for the first put, and the fourth is told to fail.
+// Nothing is reserved for the first put, and the fourth is set to fail.
 fn puts_in_room(sink: &mut MemSink) -> bool {
     sink.put(b"a").is_err()
         && sink.reserve(6).is_ok()

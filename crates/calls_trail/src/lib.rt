@@ -1,6 +1,6 @@
 //! What only calls can show of the parts of the search: the order of decisions, propagation, and what is learnt from a conflict.
 //!
-//! It has nothing but tests, each through what a crate offers to all.
+//! It has nothing but tests, each through the public interface of a crate.
 #![tactic(auto)]
 
 #[cfg(test)]

@@ -11,7 +11,7 @@ use prop_core::{ClauseId, Clauses, Lit};
 use sat_prop::{Propagated, Propagator, Trail};
 use std::alloc::Global;
 
-// Makes so many variables and attaches clauses, where nothing is there yet.
+// Makes `vars` variables and attaches clauses, where nothing is there yet.
 pub fn attach_all(
     propagator: &mut Propagator,
     db: &mut Clauses,
@@ -105,7 +105,7 @@ fn rests_at(propagator: &mut Propagator, db: &Clauses, level: u32) -> bool
     rests(propagator, db)
 }
 
-// A variable, its value, and the number of the clause that is the reason, or 0 where there is none.
+// A variable, its value, and the number of the clause that is the reason, or 0 if there is none.
 type Fact = (u32, Option<bool>, u64);
 
 fn is_reason(reason: Option<ClauseId>, number: u64) -> bool {
@@ -160,7 +160,7 @@ fn is_so(trail: &Trail, step: &TrailStep) -> bool {
     trail.len() == step.2 && are_facts(trail, step.3)
 }
 
-// Whether so many literals are true, all at level 1.
+// Whether `count` literals are true, all at level 1.
 fn are_on_one_level(trail: &Trail, count: u32) -> bool {
     for lit in trail.literals() {
         if trail.level_of(lit.var) != 1 || trail.place_of(lit.var) >= count {
@@ -256,7 +256,7 @@ fn joins(propagator: &mut Propagator, db: &Clauses, vars: u32, id: ClauseId) -> 
     true
 }
 
-// Joins the first two clauses, if there are so many.
+// Joins the first two clauses, if there are two.
 fn joins_two(propagator: &mut Propagator, db: &Clauses, vars: u32) -> bool
     requires front { IsFront propagator.old.clauses db.now.clauses }
     requires vars { propagator.old.vars ≡ vars }

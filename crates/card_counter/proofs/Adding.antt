@@ -10,7 +10,7 @@ use Rattle.card_counter.proofs.Inputs.{inputs_add_clauses, place_cases, variable
 use Rattle.card_counter.specs.Growing.{HasRoom, MayCount, AddsInput, AddsInputs}
 use Rattle.card_counter.specs.CounterState.{CounterState, IsPlace, IsCounter, IsMade, IsOutside, HasMoreInputs, ManyInputsAdd, IsFull, variable, counter_clauses, with_input, with_inputs, input_clauses, inputs_clauses}
 
--- ---- one input more keeps the others outside
+-- ---- one more input keeps the others outside
 
 pub outside_still : (state : CounterState) (input other : Lit) (first : ℕ) → IsFull state → other.var < first → IsOutside state other → IsOutside (with_input state input first) other
 outside_still state input other first full low outside i j place same = by (place_cases state input first full i j place)
@@ -23,7 +23,7 @@ outside_still state input other first full low outside i j place same = by (plac
 
 -- ---- the loop
 
--- Of the inputs the first so many are added: the others lead from this state to the whole, and there is room for them.
+-- The first `done` inputs are added: the others lead from this state to the whole, and there is room for them.
 pub record AreAdded (old : CounterState) (inputs : List Lit) (first : ℕ) (written : List Clause) (done : ℕ) (state : CounterState) (vars : ℕ) (store : ClauseStore) : Type 0 where
   pub leads : with_inputs state (drop done inputs) vars ≡ with_inputs old inputs first
   pub writes : store.clauses ++ inputs_clauses state (drop done inputs) vars ≡ written ++ inputs_clauses old inputs first
@@ -152,6 +152,6 @@ many_inputs_add state [] first full = record {
 many_inputs_add state (input ∷ more) first full =
     one_then_others state input more first full (many_inputs_add (with_input state input first) more (first + length state.columns) (full_stays state input first full))
 
--- inputs more leave as many columns
+-- further inputs leave as many columns
 pub columns_stay : (inputs : List Lit) (old : CounterState) (first : ℕ) (written : List Clause) (new : CounterState) (next : ℕ) (all : List Clause) → AddsInputs inputs old first written new next all → IsFull old → length new.columns ≡ length old.columns
 columns_stay inputs old first written new next all adds full = ap (λ (state : CounterState). length state.columns) adds.counter ∙ (many_inputs_add old inputs first full).columns

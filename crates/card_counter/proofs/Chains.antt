@@ -186,7 +186,7 @@ exclusion_is_exact inputs first made given = by (nat_le (length inputs) 4)
         agrees one var (inl below) = lower inputs first given made one var below
         agrees one var (inr above) = higher inputs first given made one var above
 
--- one place more
+-- one more place
 pub chain_next : (inputs : List Lit) (first k : ℕ) (old mid new : List Clause) → mid ≡ old ++ chain_up_to inputs first k → new ≡ mid ++ link_clauses inputs first k → new ≡ old ++ chain_up_to inputs first (k + 1)
 chain_next inputs first k old mid new before now =
     let next : suc k ≡ k + 1 = omega arith in

@@ -35,7 +35,7 @@ kept_on : {X : Type 0} (value : X → Bool) (inputs : List X) (columns : ℕ) (r
 kept_on value inputs columns reach rules zero j inside high low is = absurd (omega arith)
 kept_on value inputs columns reach rules (suc i) j inside high low is = rules.kept i j inside high is
 
--- so many true inputs are reached
+-- as many are reached as inputs are true
 pub reached : {X : Type 0} (value : X → Bool) (inputs : List X) (columns : ℕ) (reach : ℕ → ℕ → Bool) → Reaches value inputs columns reach →
     (i j : ℕ) → i ≤ length inputs → j < columns → suc j ≤ count_by value (take i inputs) → reach i (suc j) ≡ true
 reached value inputs columns reach rules zero j inside high few = absurd (omega arith)
@@ -65,7 +65,7 @@ reached value inputs columns reach rules (suc i) (suc j) inside high few =
         let enough : suc (suc j) ≤ count_by value (take i inputs) = omega (arith, more) in
         kept_on value inputs columns reach rules i (suc j) (omega arith) high (positive_at value inputs i (suc j) enough) (same enough)
 
--- and to reach so many as are true keeps the rules
+-- and to reach as many as are true keeps the rules
 pub counting : {X : Type 0} (value : X → Bool) (inputs : List X) (columns : ℕ) → Reaches value inputs columns (λ i j. nat_le j (count_by value (take i inputs)))
 counting value inputs columns = record {
   kept = λ i j inside few h.

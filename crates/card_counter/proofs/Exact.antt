@@ -130,7 +130,7 @@ module _ (state : CounterState) (value : ℕ → Bool) where
 
 -- ---- the assignment that counts
 
--- so many of the first inputs are true
+-- at least j of the first i inputs are true
 abbrev truth_of : CounterState → (ℕ → Bool) → Meaning → Bool
 truth_of state given (reaches i j) = nat_le j (count_by (literal_true given) (take i state.inputs))
 truth_of state given meaning = false

@@ -114,7 +114,7 @@ chain_size inputs zero = omega arith
 chain_size inputs (suc m) =
     omega (arith, chain_size inputs m, ap length (flat_next (link_at inputs) m), length-append (flat_map (link_at inputs) (range_with_len 0 m)) (link_at inputs m), link_size inputs m)
 
--- with one clause more they are still at most as many as pairs of inputs, in either order or with itself
+-- with one more clause they are still at most as many as pairs of inputs, in either order or with itself
 pub fewer_than_square : (inputs : List Meaning) → 1 ≤ length inputs → length (exclusion_list inputs) + 1 ≤ length inputs * length inputs
 fewer_than_square inputs some = by (nat_le (length inputs) 4) refl
   where

@@ -31,7 +31,7 @@ adds_both old mid new xs ys m n o p q r first second clauses literals = record {
   literals = let a = first.literals in let b = second.literals in omega (arith, a, b, literals);
 }
 
--- one place more of a loop
+-- one more place of a loop
 pub adds_next : (f : ℕ → List Clause) (old mid new : ClauseStore) (place : ℕ) (more : List Clause) → more ≡ f place →
     AddsWithin old (flat_map f (numbers_below place)) (2 * place) (5 * place) mid → AddsWithin mid more 2 5 new → AddsWithin old (flat_map f (numbers_below (place + 1))) (2 * (place + 1)) (5 * (place + 1)) new
 adds_next f old mid new place more is so_far adds =

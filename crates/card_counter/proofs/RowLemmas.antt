@@ -1,4 +1,4 @@
--- How a counter's columns stand in memory: look-ups, a column more, an input more.
+-- How a counter's columns stand in memory: look-ups, a further column, a further input.
 use Rattle.std.proofs.Common.{◌≡◌, ℕ, zero, suc, ◌+◌, ◌-◌, ◌<◌, ◌≤◌, ◌∙◌, List, [], ◌∷◌, ◌++◌, map, drop, length, refl, sym, ap, subst, arith, append_assoc, append-nil, length-append, get_or, ◌*◌}
 use Rattle.std.specs.List.{range_with_len, AllByRecursion}
 use Rattle.std.proofs.Math.ListN.{get_or-append}
@@ -81,7 +81,7 @@ module _ (state : CounterState) (inputs : List Lit) (rows : List ℕ) (columns :
   pub is_small : variable state i j < VAR_LIMIT
   is_small = let low = laid.small i j input_there column_there in let same = is_variable in omega (arith, low, same)
 
--- ---- a column more
+-- ---- a further column
 
 columns_put : (rows : List ℕ) (j : ℕ) (columns : List Column) (column : Column) → columns_of rows j (columns ++ column ∷ []) ≡ columns_of rows j columns ++ column_of rows (j + length columns) column ∷ []
 columns_put rows j [] column = let same : j ≡ j + 0 = omega arith in ap (λ k. column_of rows k column ∷ []) same
@@ -162,7 +162,7 @@ module _ (old : CounterState) (vars : ℕ) (inputs : List Lit) (rows : List ℕ)
     made = added_made next is;
   }
 
--- ---- an input more
+-- ---- a further input
 
 column_longer : (rows : List ℕ) (j : ℕ) (column : Column) (row : ℕ) → column.count ≤ length rows → column_of (rows ++ row ∷ []) j column ≡ column_of rows j column ++ (row + j) ∷ []
 column_longer rows j column row h =

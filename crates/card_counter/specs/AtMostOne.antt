@@ -40,7 +40,7 @@ link_clauses inputs first i =
     ∷ (negation (input_at inputs (suc i)) ∷ negative (first + i) ∷ [])
     ∷ (if nat_lt (suc i) (length inputs - 1) then (negative (first + i) ∷ positive (first + suc i) ∷ []) ∷ [] else [])
 
--- the first so many places of a chain, whose variables stand in a row
+-- the first k places of a chain, whose variables stand in a row
 abbrev pub chain_up_to : List Lit → ℕ → ℕ → List Clause
 chain_up_to inputs first k = flat_map (link_clauses inputs first) (numbers_below k)
 
@@ -54,20 +54,20 @@ exclusion_clauses inputs first = if nat_le (length inputs) 4 then excluded_pairs
 
 -- ---- what they say
 
--- The clauses of all pairs are true exactly where at most one input is.
+-- The clauses of all pairs are true exactly if at most one input is.
 abbrev pub PairsExclude : Type 0
 PairsExclude = (value : ℕ → Bool) (inputs : List Lit) → AllClausesTrue value (excluded_pairs inputs) ↔ AtMostOneTrue value inputs
 
--- the same truth for each variable but so many from the first on
+-- the same truth for each variable but `count` of them, from `first` on
 abbrev pub AgreeBut : ℕ → ℕ → (ℕ → Bool) → (ℕ → Bool) → Type 0
 AgreeBut first count given assignment = (var : ℕ) → (var < first) ⊎ (first + count ≤ var) → assignment var ≡ given var
 
--- Of inputs that were made before the chain, an assignment extends to the clauses, by a change of the chain's variables alone, exactly where at most one input is true.
+-- Of inputs that were made before the chain, an assignment extends to the clauses, by a change of the chain's variables alone, exactly if at most one input is true.
 abbrev pub AllowsAtMostOne : List Lit → ℕ → List Clause → Type 0
 AllowsAtMostOne inputs first clauses = HasValues first inputs → (given : ℕ → Bool) →
     ((assignment : ℕ → Bool) × AgreeBut first (chain_count (length inputs)) given assignment × AllClausesTrue assignment clauses) ↔ AtMostOneTrue given inputs
 
--- What is written says exactly this, of whatever inputs, and with whatever first variable.
+-- What is written says exactly this, for any inputs and any first variable.
 abbrev pub ExclusionIsExact : Type 0
 ExclusionIsExact = (inputs : List Lit) (first : ℕ) → AllowsAtMostOne inputs first (exclusion_clauses inputs first)
 

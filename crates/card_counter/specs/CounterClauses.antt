@@ -1,5 +1,5 @@
 -- The clauses of a counter, by name (after Sinz, "Towards an optimal CNF encoding of Boolean cardinality constraints", CP 2005). The meaning `reaches i j` says that of
--- the first i inputs at least j are true, for i and j from 1. That at least 0 are true is always so, and that of no inputs one is true is never so: these have no meaning.
+-- the first i inputs at least j are true, for i and j from 1. At least 0 are always true, and of no inputs one never is: these have no meaning.
 use Rattle.std.specs.Prelude.{◌≡◌, ◌⊎◌, ℕ, zero, suc, ◌<◌, ◌≤◌, not, List, [], ◌∷◌, ◌++◌, length, Some, slice_get}
 use Rattle.prop_core.specs.VariableNames.{NamedLiteral, yes, no, reaches}
 
@@ -34,7 +34,7 @@ abbrev pub IsOfColumn : ℕ → CountClause → Type 0
 IsOfColumn column (counts_on i j) = j ≡ suc column
 IsOfColumn column (counts_up i j x) = j ≡ column
 
--- it is of one of the first so many columns
+-- it is of one of the first `columns` columns
 abbrev pub IsOfColumns : ℕ → CountClause → Type 0
 IsOfColumns columns (counts_on i j) = j ≤ columns
 IsOfColumns columns (counts_up i j x) = j < columns
@@ -43,6 +43,6 @@ IsOfColumns columns (counts_up i j x) = j < columns
 abbrev pub IsNamedColumn : List NamedLiteral → ℕ → List NamedLiteral → Type 0
 IsNamedColumn inputs column named = (which : CountClause) × IsCountClause inputs which × IsOfColumn column which × (count_clause which ≡ named)
 
--- the clauses of so many columns
+-- the clauses of the first `columns` columns
 abbrev pub IsNamedCount : List NamedLiteral → ℕ → List NamedLiteral → Type 0
 IsNamedCount inputs columns named = (which : CountClause) × IsCountClause inputs which × IsOfColumns columns which × (count_clause which ≡ named)

@@ -60,7 +60,7 @@ positive var = record { var = var; positive = true }
 abbrev pub negative : ℕ → Lit
 negative var = record { var = var; positive = false }
 
--- that inputs reach a number: always so, never so, or as the truth of a variable says
+-- that inputs reach a number: always, never, or as the truth of a variable says
 pub data Reached : Type 0 where
   always : Reached
   never : Reached
@@ -86,7 +86,7 @@ under (told_by var) clause = (negative var ∷ clause) ∷ []
 abbrev pub kept_clauses : List ℕ → ℕ → List Clause
 kept_clauses column i = under (reached_in column i) (positive (var_at column i) ∷ [])
 
--- a true input reaches one more than the inputs before it, as the column before tells; in the first column it reaches 1, without a premise
+-- a true input reaches one more than the inputs before it, as the column before says; in the first column it reaches 1, without a premise
 abbrev pub counted_clauses : Lit → Option (List ℕ) → List ℕ → ℕ → List Clause
 counted_clauses input before column i = under (reached_before before i) (negation input ∷ positive (var_at column i) ∷ [])
 
@@ -146,7 +146,7 @@ with_column state first = record { inputs = state.inputs; columns = state.column
 abbrev pub next_clauses : CounterState → ℕ → List Clause
 next_clauses state first = column_clauses state.inputs (column_before state.columns (length state.columns)) (range_with_len first (length state.inputs))
 
--- A column more has its clauses behind those of the others.
+-- The clauses of a further column come after those of the others.
 abbrev pub ColumnsAddClauses : Type 0
 ColumnsAddClauses = (state : CounterState) (first : ℕ) → counter_clauses (with_column state first) ≡ counter_clauses state ++ next_clauses state first
 
@@ -166,7 +166,7 @@ abbrev pub input_clauses : CounterState → Lit → ℕ → List Clause
 input_clauses state input first =
     flat_map (λ j. place_clauses input (column_before (longer first state.columns) j) (column_at (longer first state.columns) j) (length state.inputs)) (numbers_below (length state.columns))
 
--- An input more has its clauses beside those of the others, which stay.
+-- The clauses of a further input come beside those of the others, which stay.
 abbrev pub InputsAddClauses : Type 0
 InputsAddClauses = (state : CounterState) (input : Lit) (first : ℕ) → IsFull state → (clause : Clause) →
     Contains (counter_clauses (with_input state input first)) clause ↔ Contains (counter_clauses state) clause ⊎ Contains (input_clauses state input first) clause
@@ -198,22 +198,22 @@ abbrev pub inputs_clauses : CounterState → List Lit → ℕ → List Clause
 inputs_clauses state [] first = []
 inputs_clauses state (input ∷ more) first = input_clauses state input first ++ inputs_clauses (with_input state input first) more (first + length state.columns)
 
--- the same counter with room for at least so many more inputs
+-- the same counter with room for at least `more` more inputs
 abbrev pub with_room : CounterState → ℕ → CounterState
 with_room state more = record { inputs = state.inputs; columns = state.columns; spare_inputs = max state.spare_inputs more }
 
--- the same inputs and columns, with whatever room
+-- the same inputs and columns, with any room
 pub record AreAlike (state other : CounterState) : Type 0 where
   pub inputs : other.inputs ≡ state.inputs
   pub columns : other.columns ≡ state.columns
 
--- Inputs more: first those that there were, then these; and the clauses are those that there were, which stay, and the new ones.
+-- With further inputs: first those that there were, then these; and the clauses are those that there were, which stay, and the new ones.
 pub record HasMoreInputs (state : CounterState) (more : List Lit) (first : ℕ) : Type 0 where
   pub inputs : (with_inputs state more first).inputs ≡ state.inputs ++ more
   pub columns : length (with_inputs state more first).columns ≡ length state.columns
   pub clauses : (clause : Clause) → Contains (counter_clauses (with_inputs state more first)) clause ↔ Contains (counter_clauses state) clause ⊎ Contains (inputs_clauses state more first) clause
 
--- So it is of each counter whose columns are full, with whatever further inputs.
+-- This holds for each counter whose columns are full, and for any further inputs.
 abbrev pub ManyInputsAdd : Type 0
 ManyInputsAdd = (state : CounterState) (more : List Lit) (first : ℕ) → IsFull state → HasMoreInputs state more first
 
@@ -224,10 +224,10 @@ abbrev pub counter_meanings : CounterState → List (ℕ × Meaning)
 counter_meanings state =
     flat_map (λ j. map (λ i. (variable state i j, reaches (suc i) (suc j))) (numbers_below (length state.inputs))) (numbers_below (length state.columns))
 
--- the variables of a column more, each with its meaning
+-- the variables of a further column, each with its meaning
 abbrev pub next_meanings : CounterState → ℕ → List (ℕ × Meaning)
 next_meanings state first = map (λ i. (first + i, reaches (suc i) (suc (length state.columns)))) (numbers_below (length state.inputs))
 
--- A column more has its meanings behind those of the others.
+-- The meanings of a further column come after those of the others.
 abbrev pub ColumnsAddMeanings : Type 0
 ColumnsAddMeanings = (state : CounterState) (first : ℕ) → counter_meanings (with_column state first) ≡ counter_meanings state ++ next_meanings state first

@@ -22,7 +22,7 @@ AgreeOutside state given assignment = (var : ℕ) → ((i j : ℕ) → IsPlace s
 abbrev pub ExtendsOverCounter : CounterState → (ℕ → Bool) → ((ℕ → Bool) → Type 0) → Type 0
 ExtendsOverCounter state given holds = (assignment : ℕ → Bool) × AgreeOutside state given assignment × holds assignment
 
--- With this literal as an assumption the clauses can be made true exactly where at most k inputs are true.
+-- With this literal as an assumption the clauses can be made true exactly if at most k inputs are true.
 abbrev pub Bounds : CounterState → Lit → ℕ → Type 0
 Bounds state bound k = (given : ℕ → Bool) →
     ExtendsOverCounter state given (λ assignment. AllClausesTrue assignment (counter_clauses state) × IsTrue (literal_true assignment bound)) ↔ true_count given state.inputs ≤ k
@@ -32,7 +32,7 @@ pub record Counts (state : CounterState) : Type 0 where
   pub free : (given : ℕ → Bool) → ExtendsOverCounter state given (λ assignment. AllClausesTrue assignment (counter_clauses state))
   pub bounded : (k : ℕ) → k < length state.columns → Bounds state (bound_literal state k) k
 
--- So it is of each counter, whatever its inputs.
+-- This holds for each counter, whatever its inputs.
 abbrev pub CounterIsExact : Type 0
 CounterIsExact = (state : CounterState) → IsCounter state → Counts state
 
@@ -51,7 +51,7 @@ is_count (dropped i) = false
 is_count (reaches i j) = true
 is_count (some_of_first family i) = false
 
--- the truth of meanings where the first i inputs reach j just where at least j of them are true
+-- the truth of meanings by which the first i inputs reach j exactly if at least j of them are true
 abbrev pub counted : List NamedLiteral → (Meaning → Bool) → Meaning → Bool
 counted inputs value (in_state c q t) = value (in_state c q t)
 counted inputs value (happens e t) = value (happens e t)
@@ -71,18 +71,18 @@ pub record CountsByName (inputs : List NamedLiteral) (value : Meaning → Bool) 
   pub bound : (k : ℕ) → count_by (named_true value) inputs ≤ k → counted inputs value (reaches (length inputs) (suc k)) ≡ false
   pub few : (columns k : ℕ) → AllHold (IsNamedCount inputs columns) value → k < columns → value (reaches (length inputs) (suc k)) ≡ false → count_by (named_true value) inputs ≤ k
 
--- So it is of whatever inputs, by each truth of meanings.
+-- This holds for all inputs, by each truth of meanings.
 abbrev pub NamedCountIsExact : Type 0
 NamedCountIsExact = (inputs : List NamedLiteral) (value : Meaning → Bool) → CountsByName inputs value
 
 -- ---- column by column
 
--- The clauses of no columns are none; a column more has its own and those before.
+-- No columns have no clauses; a further column adds its own to those before.
 pub record ColumnsGrow (inputs : List NamedLiteral) : Type 0 where
   pub begins : (named : List NamedLiteral) → IsNamedCount inputs 0 named → ⊥
   pub grows : (columns : ℕ) (named : List NamedLiteral) → IsNamedCount inputs (suc columns) named ↔ IsNamedCount inputs columns named ⊎ IsNamedColumn inputs columns named
 
--- So they grow over whatever inputs.
+-- So they grow over any inputs.
 abbrev pub NamedColumnsGrow : Type 0
 NamedColumnsGrow = (inputs : List NamedLiteral) → ColumnsGrow inputs
 
@@ -98,7 +98,7 @@ abbrev pub CounterIsCode : Type 0
 CounterIsCode = (meanings : List (ℕ × Meaning)) (inputs : List NamedLiteral) (state : CounterState) → IsNamedBy meanings inputs state →
     IsCode meanings (IsNamedCount inputs (length state.columns)) (counter_clauses state)
 
--- The clauses that a column more brings are those of this column.
+-- The clauses that a further column adds are those of this column.
 abbrev pub ColumnIsCode : Type 0
 ColumnIsCode = (meanings : List (ℕ × Meaning)) (inputs : List NamedLiteral) (state : CounterState) (first : ℕ) → IsNamedBy meanings inputs (with_column state first) →
     IsCode meanings (IsNamedColumn inputs (length state.columns)) (next_clauses state first)
@@ -111,7 +111,7 @@ pub record AreCounterMeanings (state : CounterState) : Type 0 where
   pub called : (meanings : List (ℕ × Meaning)) → HasEachOnce meanings → ((entry : ℕ × Meaning) → Contains (counter_meanings state) entry → Contains meanings entry) →
       (i j : ℕ) → IsPlace state i j → meaning_of meanings (variable state i j) ≡ Some (reaches (suc i) (suc j))
 
--- So it is of the meanings of each counter.
+-- This holds for the meanings of each counter.
 abbrev pub CounterMeaningsStand : Type 0
 CounterMeaningsStand = (state : CounterState) → IsCounter state → AreCounterMeanings state
 
@@ -119,7 +119,7 @@ CounterMeaningsStand = (state : CounterState) → IsCounter state → AreCounter
 abbrev pub HasNoneOf : List (ℕ × Meaning) → ℕ → Type 0
 HasNoneOf meanings column = AllByRecursion (λ entry. (i : ℕ) → entry.1 ≢ reaches i (suc column)) meanings
 
--- Names that stand for a counter, all of variables that were made before, stand with those of a column more for the counter with it.
+-- Names that stand for a counter, all of variables that were made before, stand, together with those of a further column, for the counter with it.
 abbrev pub CounterMeaningsGrow : Type 0
 CounterMeaningsGrow = (meanings : List (ℕ × Meaning)) (inputs : List NamedLiteral) (state : CounterState) (first : ℕ) → HasEachOnce meanings → AllByRecursion (λ entry. entry.0 < first) meanings →
     HasNoneOf meanings (length state.columns) → IsNamedBy meanings inputs state →

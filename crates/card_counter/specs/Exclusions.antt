@@ -57,7 +57,7 @@ pub record AreListed (inputs : List Meaning) : Type 0 where
   pub same : (which : ExclusionClause) → Contains (exclusion_list inputs) which ↔ IsExclusionClause inputs which
   pub few : length (exclusion_list inputs) ≤ 3 * length inputs
 
--- So they are of whatever inputs.
+-- This holds for all inputs.
 abbrev pub ExclusionsAreListed : Type 0
 ExclusionsAreListed = (inputs : List Meaning) → AreListed inputs
 
@@ -107,6 +107,6 @@ pub record ChainsComplete (inputs : Exclusion → Option (List Meaning)) (value 
   pub kept : (family : Exclusion) (k : ℕ) → inputs family ≡ None → with_chains inputs value (some_of_first family k) ≡ value (some_of_first family k)
   pub hold : (family : Exclusion) (xs : List Meaning) → inputs family ≡ Some xs → ((x : Meaning) → Contains xs x → is_chain x ≡ false) → AtMostOneOf value xs → ExclusionsHold (with_chains inputs value) family xs
 
--- So it is of whatever inputs of the families, by each truth of meanings.
+-- This holds for all inputs of the families, by each truth of meanings.
 abbrev pub ExclusionIsComplete : Type 0
 ExclusionIsComplete = (inputs : Exclusion → Option (List Meaning)) (value : Meaning → Bool) → ChainsComplete inputs value

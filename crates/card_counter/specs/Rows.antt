@@ -16,7 +16,7 @@ abbrev pub columns_of : List ℕ → ℕ → List Column → List (List ℕ)
 columns_of rows j [] = []
 columns_of rows j (column ∷ more) = column_of rows j column ∷ columns_of rows (suc j) more
 
--- the counter that stands in memory as these inputs, their rows, these columns, and room for so many more inputs
+-- the counter that stands in memory as these inputs, their rows, these columns, and room for `spare` more inputs
 abbrev pub counter_of : List Lit → List ℕ → List Column → ℕ → CounterState
 counter_of inputs rows columns spare = record { inputs = inputs; columns = columns_of rows 0 columns; spare_inputs = spare }
 

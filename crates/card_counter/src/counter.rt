@@ -1,3 +1,4 @@
+// A counter: clauses that count how many of its inputs are true, with one column for each number.
 ghost use Rattle.std.specs.Prelude.{◌≡◌, ◌+◌, ◌*◌, ◌-◌, ◌<◌, ◌≤◌, length, OnOk, OnErr, IfOk, All};
 ghost use Rattle.des_base.specs.declared.TheConstants.{VAR_LIMIT};
 ghost use Rattle.card_counter.specs.CounterState.{IsCounter, IsMade, IsPlace, variable, without_columns, with_room, clauses_at, clauses_of_column, clauses_of_input, kept_at, counted_at, bound_literal};
@@ -23,8 +24,8 @@ pub struct Column {
 #[derive(Drop)]
 pub struct Counter {
     inputs: Vec<Lit>,
-    // Of an input that came later the first variable of its own row, which has one for each column that there was. Of the
-    // others no variable.
+    // For an input that came later, the first variable of its own row, which has one for each column that there was; for
+    // the others 0.
     rows: Vec<u32>,
     columns: Vec<Column>,
     spare_inputs: usize,
@@ -78,8 +79,7 @@ impl Counter {
         self.columns.len() as u32
     }
 
-    /// Adds a column: a new variable for each input, and clauses that say what they count. It uses up room where some was
-    /// reserved.
+    /// Adds a column: a new variable for each input, and clauses that say what they count. It uses up reserved room.
     pub fn add_column(&mut self, vars: &mut Vars, out: &mut Clauses) -> Result<(), Memory>
         requires some { 1 ≤ length self.old.inputs }
         requires few { length self.old.columns < 256 }
@@ -103,7 +103,7 @@ impl Counter {
         Ok(())
     }
 
-    /// Sees to it that there is room for this many more inputs.
+    /// Makes sure that there is room for this many more inputs.
     pub fn reserve_inputs(&mut self, more: u32) -> Result<(), Memory>
         ensures room { OnOk result (self.new ≡ with_room self.old more) }
         ensures counter { IsCounter self.new }
@@ -127,7 +127,7 @@ impl Counter {
         ensures counter { IsCounter self.new }
         ensures exact { Counts self.new }
     {
-        // Also where there are none to add, that it is a counter is known from its fields.
+        // Even if there are none to add, the fields show that it is a counter.
         let _ = &self.inputs;
         for input in inputs {
             self.add_input(*input, vars, out);
@@ -240,7 +240,7 @@ impl Counter {
     }
 }
 
-// A row with no variable for each of so many inputs.
+// No row of its own for each of `count` inputs: 0 in place of a first variable.
 fn no_rows(alloc: Global, count: usize) -> Result<Vec<u32>, Memory>
     ensures { IfOk result (λ rows. length rows.items ≡ count) }
 {

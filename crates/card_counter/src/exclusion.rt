@@ -1,3 +1,4 @@
+// "At most one" of some literals is true: a clause for each pair, or a chain.
 ghost use Rattle.std.specs.Prelude.{◌≡◌, ◌+◌, ◌*◌, ◌-◌, ◌<◌, ◌≤◌, ◌++◌, length, map, OnOk, OnErr};
 ghost use Rattle.des_base.specs.ChainCount.{chain_count};
 ghost use Rattle.des_base.specs.declared.TheConstants.{VAR_LIMIT};
@@ -6,14 +7,13 @@ ghost use Rattle.card_counter.specs.AtMostOne.{not_both, excluded_pairs, chain_c
 use des_base::Memory;
 use prop_core::{Clauses, Lit, Vars};
 
-// Of so many inputs each pair has a clause. More inputs have a chain.
+// Up to this many inputs have a clause for each pair. More inputs have a chain.
 const MOST_PAIRED: usize = 4;
 
 /// Adds that at most one of the inputs is true.
 ///
 /// At most four inputs have a clause for each pair, and no new variables. More inputs have a chain of new variables, one
-/// for each input but the last, of which each says that one of the inputs so far is true. It uses up room where some was
-/// reserved.
+/// for each input but the last, of which each says that one of the inputs so far is true. It uses up reserved room.
 pub fn at_most_one(inputs: &[Lit], vars: &mut Vars, out: &mut Clauses) -> Result<(), Memory>
     requires room { vars.old + chain_count (length inputs.now) ≤ VAR_LIMIT }
     ensures clauses { OnOk result (out.new.clauses ≡ out.old.clauses ++ exclusion_clauses inputs.now vars.old) }
@@ -29,7 +29,7 @@ pub fn at_most_one(inputs: &[Lit], vars: &mut Vars, out: &mut Clauses) -> Result
     }
 }
 
-/// How many variables an "at most one" of so many inputs makes.
+/// How many variables an "at most one" of `inputs` inputs makes.
 pub fn chain_count(inputs: u32) -> u32
     ensures { result ≡ chain_count inputs }
 {

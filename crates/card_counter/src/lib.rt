@@ -7,7 +7,7 @@
 //!   true: this is one literal, which is to be assumed and is no clause, so that the next bound can be asked for without writing
 //!   anything again.
 //!
-//! Both are exact: by a change of new variables alone the clauses can be made true exactly where so few inputs are. Clauses
+//! Both are exact: by a change of new variables alone the clauses can be made true exactly if at most that many inputs are. Clauses
 //! of both are known as well by the meanings of their variables, whichever variables those are.
 #![tactic(auto)]
 

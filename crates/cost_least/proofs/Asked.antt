@@ -1,4 +1,4 @@
--- What a question of costs tells, and what its answers mean.
+-- What a question of costs asks, and what its answers mean.
 use Rattle.std.proofs.Common.{◌≡◌, ◌∙◌, ◌⊎◌, inl, inr, ℕ, suc, ◌+◌, ◌-◌, ◌<◌, ◌≤◌, Bool, true, List, length, Option, Some, None, ap, subst, arith, take, take_all}
 use Rattle.std.specs.Prelude.{IfSome, min}
 use Rattle.std.proofs.lemmas.Bool.{cases_lt}

@@ -161,7 +161,7 @@ module _ (q : CostAsked) (code : CodedLog) (scale : Scale) where
     pub halved_dear : min best.cost (1 + MOST_COST) ≤ lo → MOST_COST < best.cost → HasFoundCost q budget old new (Dear best.run)
     halved_dear end above = found_by q old new budget left come.searching (Dear best.run) tt finals_negate (omega (arith, come.few, come.reached)) (ends_dear q (axioms_of new) come.searching.since lo best come.needs come.given end come.reached above evidence)
 
-    -- a final entry tells by its literals which total it refutes
+    -- the literals of a final entry show which total it refutes
     finals_tell : IsValidBook new → HasValues scale.first (log_guards code) → PoseCostQuestion q None (axioms_of new) (assumed_at code scale None) → (b : ℕ) → HasFinal come.searching.since (assumed_at code scale (Some b)) → b < lo
     finals_tell valid guards unbounded b has = by (cases_lt b lo)
       where

@@ -1,4 +1,4 @@
--- A question with a weighted counter beside it tells what explains with a total of at most so much.
+-- A question with a weighted counter beside it tells what explains within a bound on the total.
 use Rattle.std.proofs.Common.{◌≡◌, ◌∙◌, ◌⊎◌, inl, inr, ℕ, zero, suc, ◌-◌, ◌<◌, ◌≤◌, nat_le, Bool, true, false, not, List, [], ◌∷◌, ◌++◌, length, Some, None, refl, sym, ap, subst, arith, IsTrue, take, take_all, cond}
 use Rattle.std.specs.Bool.{beq}
 use Rattle.std.specs.List.{AllZip}

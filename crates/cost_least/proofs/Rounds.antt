@@ -108,7 +108,7 @@ module _ {R C : Type 0} (may : R → ℕ → Type 0) (gives : R → ℕ → ℕ 
           as_now now new left come.goes cost weighed (Dear best.run)
           (halved_dear (asked_of net cost log begun) begun.code.coded scale first new budget left lo best (come.come cost answered weighed) (tells_few now new left come.goes cost weighed) end above)
 
-    -- where memory is wanting
+    -- if memory runs out
     pub quits_at : (mid now : Parts R) (old new : List BookEntry) (before after lo : ℕ) (best : Priced) → HasComeTo may gives answers stored net log begun mid scale first old budget before lo best → GoesOnWeighed may gives mid now scale old new before after → PutsNoFinal old new →
         (cost : ℕ → ℕ) → GivesCosts answers stored net cost → AreWeighed may gives cost begun scale first → HasRefusedCosts (asked_of net cost log now) first new
     quits_at mid now old new before after lo best come two quit cost answered weighed =

@@ -24,7 +24,7 @@ use Rattle.answers.specs.declared.cheap.Priced.{Priced}
 use Rattle.answers.specs.declared.cheap.Cheap.{Cheap}
 use Rattle.answers.specs.declared.cheap.Cheap.TheVariants.{Found, Absent, Dear, Undecided}
 
--- what is asked about: a network, what its fault events cost, a log, and so many steps
+-- what is asked about: a network, what its fault events cost, a log, and a number of steps
 pub record CostAsked : Type 0 where
   pub net : Net
   pub cost : ℕ → ℕ
@@ -35,7 +35,7 @@ pub record CostAsked : Type 0 where
 abbrev pub PoseCostQuestion : CostAsked → Option ℕ → List Clause → List Lit → Type 0
 PoseCostQuestion q bound clauses assumed = PosesCosts q.net q.cost q.log q.steps bound clauses assumed
 
--- each explanation has total c at least
+-- each explanation has a total of at least c
 abbrev pub Needs : CostAsked → ℕ → Type 0
 Needs q c = NeedsCost q.net q.cost q.log q.steps c
 
@@ -63,7 +63,7 @@ pub record NegatesCost (q : CostAsked) (axioms : List Clause) (clause : Clause) 
   pub told : PoseCostQuestion q bound axioms assumed
   pub negates : NegatesOnly assumed clause
 
--- so it is with each final entry
+-- this holds for each final entry
 abbrev pub FinalsNegateCosts : CostAsked → List Clause → List BookEntry → Type 0
 FinalsNegateCosts q axioms since = (clause : Clause) (hints : List ℕ) → Contains since (final clause hints) → NegatesCost q axioms clause
 
@@ -103,7 +103,7 @@ pub record IsKnownAbove (q : CostAsked) (axioms : List Clause) (since : List Boo
   pub above : lo < priced.cost
   pub greatest : IsAboveFinals q axioms since lo
 
--- The budget was spent on learnt entries. All explanations have total lo at least, which the book shows. Where no run is known, lo is 0 and nothing is refuted.
+-- The budget was spent on learnt entries. All explanations have a total of at least lo, which the book shows. Where no run is known, lo is 0 and nothing is refuted.
 pub record IsUndecidedCost (q : CostAsked) (axioms : List Clause) (since : List BookEntry) (budget lo : ℕ) (best : Option Priced) : Type 0 where
   pub spent : count_by is_learnt since ≡ budget
   pub needs : Needs q lo
@@ -137,7 +137,7 @@ abbrev pub HasConflictAt : CostAsked → List BookEntry → ℕ → Option Price
 HasConflictAt q book lo None = HasCostConflict q None book
 HasConflictAt q book lo (Some priced) = (b : ℕ) × IsBetween lo priced.cost b × HasCostConflict q (Some b) book
 
--- the same of an answer; of one that decides there is nothing to say
+-- the same for an answer; of one that decides there is nothing to say
 abbrev pub HasConflictOf : CostAsked → List BookEntry → Cheap → Type 0
 HasConflictOf q book (Found priced) = ⊤
 HasConflictOf q book Absent = ⊤

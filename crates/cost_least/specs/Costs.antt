@@ -26,7 +26,7 @@ pub record IsExplainedAt (net : Net) (cost : ℕ → ℕ) (log : Log) (n c : ℕ
   pub explains : Explains net log n word order
   pub total_is : total net cost word order ≡ c
 
--- each explanation has total c at least
+-- each explanation has a total of at least c
 abbrev pub NeedsCost : Net → (ℕ → ℕ) → Log → ℕ → ℕ → Type 0
 NeedsCost net cost log n c = (word : List ℕ) (order : List Entry) → Explains net log n word order → c ≤ total net cost word order
 

@@ -30,7 +30,7 @@ weighing_clause (keeps_weight i j) = fails (weighs i j) ∷ holds (weighs (suc i
 weighing_clause (has_weight i j input) = fails (of_question input) ∷ holds (weighs i j) ∷ []
 weighing_clause (adds_weight i j weight input) = fails (weighs i j) ∷ fails (of_question input) ∷ holds (weighs (suc i) (j + weight)) ∷ []
 
--- for which numbers it is written, over these inputs with their weights, where so many amounts are told apart
+-- for which numbers it is written, over these inputs with their weights, where `amounts` amounts are distinguished
 abbrev pub IsNamedWeighing : List (Meaning × ℕ) → ℕ → NamedWeighing → Type 0
 IsNamedWeighing inputs amounts (keeps_weight i j) = (suc i < length inputs) × (j < amounts)
 IsNamedWeighing inputs amounts (has_weight i j input) = (weight : ℕ) × (slice_get inputs i ≡ Some (input, weight)) × (j < weight) × (j < amounts)
@@ -38,11 +38,11 @@ IsNamedWeighing inputs amounts (adds_weight i j weight input) = (slice_get input
 
 -- ---- with a question
 
--- a clause of a question, or one of a counter that weighs these inputs up to so many amounts
+-- a clause of a question, or one of a counter that weighs these inputs up to `amounts` amounts
 abbrev pub IsCostClause : Net → Log → ℕ → List (Meaning × ℕ) → ℕ → List (LiteralOf CostMeaning) → Type 0
 IsCostClause net log n inputs amounts clause = IsLifted of_question (IsNamedClause net log n) clause ⊎ ((which : NamedWeighing) × IsNamedWeighing inputs amounts which × (weighing_clause which ≡ clause))
 
--- that so many inputs weigh at most b; of no inputs there is nothing to say
+-- that this many inputs weigh at most b; of no inputs there is nothing to say
 abbrev pub weighs_at_most : ℕ → ℕ → List (LiteralOf CostMeaning)
 weighs_at_most zero b = []
 weighs_at_most (suc i) b = fails (weighs i b) ∷ []

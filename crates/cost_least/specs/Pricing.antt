@@ -1,4 +1,4 @@
--- A question with a counter of costs beside it tells what explains with a total of at most so much, and is drawn from the families of both.
+-- A question with a counter of costs beside it tells what explains within a bound on the total, and is drawn from the families of both.
 use Rattle.std.specs.Prelude.{◌≡◌, ℕ, suc, ◌+◌, ◌-◌, ◌<◌, ◌≤◌, true, Bool, List, [], ◌∷◌, ◌++◌, length, map, flat_map, Option, Some, None, if◌then◌else◌, sum_by}
 use Rattle.std.specs.List.{AllZip}
 use Rattle.card_counter.specs.CounterState.{negative}

@@ -97,7 +97,7 @@ pub record HasAnsweredCosts {R C : Type 0} (answers : C → ℕ → ℕ → Type
 
 -- ---- what a refutation decides
 
--- A clause of negated assumptions that axioms entail which tell what explains within a bound rules that out: nothing explains, or all that does has a greater total.
+-- If axioms tell what explains within a bound, a clause of negated assumptions that they entail rules that out: nothing explains, or all that does has a greater total.
 abbrev pub CostsAreRuledOut : Type 0
 CostsAreRuledOut = (q : CostAsked) (bound : Option ℕ) (axioms : List Clause) (assumed : List Lit) (clause : Clause) → PoseCostQuestion q bound axioms assumed → Entails axioms clause → NegatesOnly assumed clause → RulesOut q bound
 

@@ -34,7 +34,7 @@ pub enum CostAnswer {
     Spent,
 }
 
-// Asks what explains the log, with a total of at most so much where a bound is given.
+// Asks what explains the log, with a total within the bound if one is given.
 pub fn ask<C: Fn(u32) -> u32, R: Fn(u32) -> u64>(
     question: CostQuestion<'_>,
     costs: &Costs<C>,
@@ -105,7 +105,7 @@ fn assumptions(
     Ok(assumed)
 }
 
-// Appends the literal for the bound, where there is one.
+// Appends the literal for the bound, if there is one.
 fn push_limit(scale: Scale, within: Option<u32>, into: &mut Vec<Lit>) -> Result<(), Memory>
     requires bound { IfSome within (MayBound scale) }
     requires within { IsWithinVars scale }

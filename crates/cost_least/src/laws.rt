@@ -9,7 +9,7 @@ pub fn costs_are_weights()
     ensures { CostsAreWeights }
 {}
 
-/// A law: a question with a scale beside it tells what explains with a total of at most so much, and is drawn from the families of
+/// A law: a question with a scale beside it tells what explains within a bound on the total, and is drawn from the families of
 /// question and scale.
 pub fn costs_are_told()
     ensures { CostsAreTold }

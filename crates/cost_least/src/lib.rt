@@ -5,7 +5,7 @@
 //!   the total of a run that is known. Each bound that is refuted leaves a final clause of negated assumptions in the book.
 //!
 //! `specs/Costs.antt` says what totals are and what the least one is, and `specs/Drawn.antt` from which families clauses are drawn;
-//! `costs_are_told` is the law that the clauses tell just that and are of these families.
+//! `costs_are_told` is the law that the clauses tell exactly that and are of these families.
 #![tactic(auto)]
 
 mod asking;

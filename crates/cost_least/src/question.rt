@@ -1,4 +1,4 @@
-// What is asked about, and what its readers tell.
+// What is asked about, and what the contracts of its getters say.
 ghost use Rattle.log_clauses.specs.LogClauses.{guard_literals};
 ghost use Rattle.log_encode.specs.CodedLog.{read_meanings};
 ghost use Rattle.prop_core.specs.VariableNames.{ReadsAs};
@@ -19,7 +19,7 @@ pub struct CostQuestion<'a> {
     pub alloc: Global,
 }
 
-// The guards of the log, in their order, are literals of its meanings, as the reader of its code tells.
+// The guards of the log, in their order, are literals of its meanings, as the contract of `guards` says.
 pub fn has_guards(code: &LogCode)
     ensures { ReadsAs (read_meanings code.now.coded) (log_guards code.now.coded) (guard_literals code.now.coded.net code.now.coded.log) }
 {

@@ -26,8 +26,8 @@ use std::alloc::Global;
 /// The least total cost of a run that explains the log, by a search that may learn as many clauses as the budget says.
 ///
 /// It asks first without a bound, and then by halving what is left between a total that is refuted and the total of a run that is
-/// known, up to 1,000. The book gets a mark 0 first, then the clauses that weigh the faults, and a mark 1 before each answer but want
-/// of memory.
+/// known, up to 1,000. The book gets a mark 0 first, then the clauses that weigh the faults, and a mark 1 before each answer but
+/// `Memory`.
 pub fn cheapest<C: Fn(u32) -> u32, R: Fn(u32) -> u64>(
     alloc: Global,
     net: &Network,

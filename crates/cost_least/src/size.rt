@@ -8,7 +8,7 @@ use event_costs::MOST_COST;
 use log_order::AlarmLog;
 use sizing::{doubtful_alarms, fault_events, question_size};
 
-/// The size of a question of costs, told before any clause is written.
+/// The size of a question of costs, known before any clause is written.
 ///
 /// It is that of the question, and 1,000 for each fault event and step, and for each doubtful alarm. It takes no memory.
 pub fn cost_size(net: &Network, log: &AlarmLog, n: u32) -> u64

@@ -22,7 +22,7 @@ use std::alloc::Global;
 use step_encode::StepCode;
 use weight_counter::{Scale, Weighted};
 
-// How many amounts are told apart: each total that is asked for, and one above.
+// How many amounts are distinguished: each total that is asked for, and one above.
 const AMOUNTS: u32 = MOST_COST + 1;
 
 /// Puts clauses into the book of a question that weigh its faults, each by its cost. The solver adopts them.

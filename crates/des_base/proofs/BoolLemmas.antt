@@ -66,6 +66,6 @@ most_not x y h = grind (arith, nat_tests)
 pub differ : (x y : ℕ) → (x ≡ y → ⊥) → (x == y) ≡ false
 differ x y h = otherwise (x == y) (λ e. h (same x y e))
 
--- a test tells two numbers apart
+-- a test distinguishes two numbers
 pub apart : (p : ℕ → Bool) (x y : ℕ) → p x ≡ false → p y ≡ true → (x == y) ≡ false
 apart p x y a b = otherwise (x == y) (λ e. let k : p x ≡ p y = ap p (same x y e) in cc)

@@ -183,7 +183,7 @@ mapped_from f (z ∷ xs) y in' = by (f z) refl in' (mapped_from f xs y)
         at (inl same) = (z, here_first z xs z refl, e ∙ ap Some same)
         at (inr rest) = let found = later rest in (found.0, here_later z xs found.0 found.1, found.2)
 
--- a front of the list with one element more
+-- a front of the list with one more element
 pub take_push : {X : Type 0} (xs : List X) (k : ℕ) (x : X) → slice_get xs k ≡ Some x → take (suc k) xs ≡ take k xs ++ x ∷ []
 take_push [] k x h = cc
 take_push (y ∷ xs) zero x h = let same : y ≡ x = cc in ap (λ z. z ∷ []) same

@@ -53,7 +53,7 @@ pub record PlacedToken : Type 0 where
   pub start : ℕ
   pub text : List ℕ
 
--- a token of these bytes, with so many bytes of its line before it
+-- a token of these bytes, with `start` bytes of its line before it
 abbrev pub placed : ℕ → List ℕ → PlacedToken
 placed start text = record { start = start; text = text }
 

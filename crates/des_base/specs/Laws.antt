@@ -5,7 +5,7 @@ use Rattle.std.specs.Fmt.{decimal}
 use Rattle.des_base.specs.Numbers.{number_of}
 use Rattle.des_base.specs.CountedLines.{is_blank, tokens_of}
 
--- A text spells a number just where it is what is printed of that number.
+-- A text spells a number exactly if it is what is printed of that number.
 abbrev pub NumbersAreDecimal : Type 0
 NumbersAreDecimal = (n : ℕ) (text : List ℕ) → n < 2 ^ 64 → number_of text ≡ Some n ↔ text ≡ decimal n
 

@@ -5,7 +5,7 @@ ghost use Rattle.std.specs.Fmt.{decimal};
 
 use crate::memory::Memory;
 
-/// Appends the decimal digits of the number. Where memory is wanting, the text is as it was.
+/// Appends the decimal digits of the number. If memory runs out, the text is as it was.
 #[tactic(auto, using(std::proofs::lemmas::Fmt::decimal_step, std::proofs::lemmas::Fmt::decimal_digit))]
 pub fn push_decimal(out: &mut Vec<u8>, n: u64) -> Result<(), Memory>
     ensures ok { OnOk result (out.new.items ≡ out.old.items ++ decimal n) }

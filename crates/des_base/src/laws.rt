@@ -1,7 +1,7 @@
 // The laws of numbers and tokens in texts.
 ghost use Rattle.des_base.specs.Laws.{NumbersAreDecimal, TokensArePieces};
 
-/// A law: a text spells a number just where it is what is printed of that number.
+/// A law: a text spells a number exactly if it is what is printed of that number.
 pub fn numbers_are_decimal()
     ensures { NumbersAreDecimal }
 {}

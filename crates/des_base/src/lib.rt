@@ -43,8 +43,8 @@ pub use word_list::WordList;
 /// Variables of propositional formulas are below this number, so that twice a variable fits in a `u32` with a bit to spare.
 pub const VAR_LIMIT: u32 = 1_073_741_824;
 
-/// A question has at most so many steps.
+/// The most steps that a question may have.
 pub const MOST_STEPS: u32 = 1000;
 
-/// A counter of faults has at most so many columns: more faults aren't told apart.
+/// The most columns that a counter of faults may have: more faults aren't distinguished.
 pub const MOST_COLUMNS: u64 = 256;

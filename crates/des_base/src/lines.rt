@@ -91,7 +91,7 @@ impl<'a> Lines<'a> {
     }
 }
 
-/// The number of the text's last line, or 1 where it has none. A fault that belongs to the end of a text has this number.
+/// The number of the text's last line, or 1 if it has none. A fault that belongs to the end of a text has this number.
 pub fn last_line(bytes: &[u8]) -> u32
     requires { length bytes.now < 2 ^ 32 }
     ensures { result ≡ last_line bytes.now }
@@ -115,7 +115,7 @@ fn cut_line(text: &[u8]) -> (&[u8], &[u8])
     (without_carriage_return(line), without_first(rest))
 }
 
-// How many bytes stand before the first line feed, or all where there is none.
+// How many bytes stand before the first line feed, or all if there is none.
 fn line_len(text: &[u8]) -> usize
     ensures line { result ≡ position_or_len (λ byte. byte == 10) text.now }
     ensures within { result ≤ length text.now }

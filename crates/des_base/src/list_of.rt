@@ -22,7 +22,7 @@ impl<T> Model for ListOf<T> {
 }
 
 impl<T: Drop> ListOf<T> {
-    /// Nothing.
+    /// The empty list.
     pub fn new(alloc: Global) -> ListOf<T>
         ensures { result ≡ [] }
     {

@@ -1,4 +1,4 @@
-// The calls that a shelf and a sink in memory are told to fail.
+// The calls of a shelf and a sink in memory that are set to fail.
 ghost use Rattle.std.specs.Prelude.{◌≡◌, nat_eq};
 ghost use Rattle.std.specs.List.{list_any};
 

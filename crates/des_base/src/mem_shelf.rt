@@ -49,7 +49,7 @@ fn newest<'a>(files: &'a [File], name: &str) -> Option<&'a File>
     None
 }
 
-/// A shelf in memory. A load fails where it is told to, and where there is no such file.
+/// A shelf in memory. A load fails if it is set to, and if there is no such file.
 #[derive(Drop)]
 pub struct MemShelf {
     files: Vec<File>,
@@ -68,7 +68,7 @@ impl Model for MemShelf {
 }
 
 impl MemShelf {
-    /// A shelf without files, of which no load is told to fail.
+    /// A shelf without files, no load of which is set to fail.
     pub fn new(alloc: Global) -> MemShelf
         ensures { result ≡ record { files = []; failing = []; calls = 0; faults = 0 } }
     {
@@ -137,7 +137,7 @@ impl Shelf for MemShelf {
     }
 }
 
-// Copies at most `limit + 1` bytes, or none for want of memory.
+// Copies at most `limit + 1` bytes, or none if memory runs out.
 fn copy_front(bytes: &[u8], limit: u64, into: &mut Vec<u8>) -> Result<(), LoadFault>
     requires small { limit < 2 ^ 63 }
     requires empty { into.old.items ≡ [] }

@@ -8,7 +8,7 @@ use crate::outside::{PutFault, Sink};
 use std::alloc::Global;
 use std::marker::Model;
 
-/// A sink in memory. A put fails where it is told to, and where the piece is longer than what is reserved.
+/// A sink in memory. A put fails if it is set to, and if the piece is longer than what is reserved.
 #[derive(Drop)]
 pub struct MemSink {
     taken: Vec<u8>,
@@ -43,7 +43,7 @@ impl MemSink {
         }
     }
 
-    /// Takes memory for so many bytes more than were taken.
+    /// Takes memory for `bytes` bytes more than were taken.
     pub fn reserve(&mut self, bytes: usize) -> Result<(), Memory>
         ensures ok { OnOk result (self.new ≡ record self.old { room = max self.old.room bytes }) }
         ensures err { OnErr result (self.new ≡ self.old) }

@@ -1,7 +1,7 @@
-// Want of memory.
+// Out of memory.
 use std::alloc::{AllocError, AllocFailed};
 
-/// Want of memory. It may come in place of any other answer of a call that allocates.
+/// Memory ran out. This may come in place of any other answer of a call that allocates.
 #[derive(Clone, Copy)]
 pub struct Memory;
 

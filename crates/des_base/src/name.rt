@@ -20,7 +20,7 @@ use std::marker::Model;
 pub enum NameFault {
     /// It isn't 1 to 64 letters, digits, `_` or `-`.
     Shape,
-    /// Want of memory.
+    /// Memory ran out.
     Memory,
 }
 

@@ -2,7 +2,7 @@
 ghost use Rattle.std.specs.Prelude.{◌≡◌, [], ◌∷◌};
 ghost use Rattle.des_base.specs.Numbers.{digits_value, up_to, number_up_to};
 
-/// The number that the text spells in decimal digits, where it is at most `max`.
+/// The number that the text spells in decimal digits, if it is at most `max`.
 ///
 /// There is no sign, and no leading zero unless the text is `0`.
 pub fn read_number(text: &[u8], max: u64) -> Option<u64>
@@ -15,7 +15,7 @@ pub fn read_number(text: &[u8], max: u64) -> Option<u64>
     }
 }
 
-// The same, with leading zeros and of no digits too.
+// The same, but there may be leading zeros, or no digits at all.
 fn read_digits(text: &[u8], max: u64) -> Option<u64>
     ensures { result ≡ up_to max (digits_value 0 text.now) }
 {

@@ -2,7 +2,7 @@
 ghost use Rattle.std.specs.Prelude.{◌≡◌, ℕ, ◌+◌, ◌^◌, ◌<◌, ◌≤◌, List, [], length, take, Option, None, OnOk, OnErr, IfSome, IsErrOf, option_map};
 ghost use Rattle.des_base.specs.Outside.{Rose, Took, TookFront, raised};
 
-/// Why a load gave no bytes: the shelf failed, which it counts, or memory was wanting.
+/// Why a load gave no bytes: the shelf failed, which it counts, or memory ran out.
 #[derive(Clone, Copy)]
 pub enum LoadFault {
     Failed,

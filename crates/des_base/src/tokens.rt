@@ -83,7 +83,7 @@ fn blank_len(text: &[u8]) -> usize
     text.iter().take_while(|byte| is_blank(**byte)).count()
 }
 
-// How many bytes stand before the first blank, or all where there is none.
+// How many bytes stand before the first blank, or all if there is none.
 fn word_len(text: &[u8]) -> usize
     ensures word { result ≡ prefix_len (λ byte. not (is_blank byte)) text.now }
     ensures within { result ≤ length text.now }

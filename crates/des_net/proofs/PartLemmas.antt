@@ -25,7 +25,7 @@ regroup false false x y = refl
 marked : (k q : ℕ) (b : Bool) → cond (nat_eq k q) true b ≡ ((q == k) || b)
 marked k q b = grind (arith, nat_tests)
 
--- one component more is marked
+-- one more component is marked
 pub marks-more : (f g : ℕ → Bool) (k : ℕ) → ((q : ℕ) → g q ≡ cond (nat_eq k q) true (f q)) → (ps : List Part) → marks g ps ≡ (list_any (λ p. p.comp == k) ps || marks f ps)
 marks-more f g k more [] = refl
 marks-more f g k more (p ∷ ps) =

@@ -11,7 +11,7 @@ use Rattle.des_net.proofs.WidthLemmas.{need_is_least}
 use Rattle.des_base.proofs.BoolLemmas.{same}
 use Rattle.std.specs.Prelude.{Bool, ◌==◌, ◌||◌}
 
--- the test is told by the law
+-- the test is right, by the law
 run : (net : Net) (word : List ℕ) → can_run net word ≡ true → IsRun net word
 run net word is = (runs_are_local net word).0 is
 

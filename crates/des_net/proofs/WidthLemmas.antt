@@ -104,7 +104,8 @@ fits_more net word n k (pieces, count, cuts) = by k
 
 -- ---- it is least
 
--- One more than the pieces that follow are enough, and where the present piece can take the rest of its own, so many are.
+-- One more than the pieces that follow are enough, and where the present piece can take the rest of its own, the pieces
+-- that follow are.
 record Bounds (net : Net) (rest : List ℕ) (pieces : List (List ℕ)) (touched : ℕ → Bool) : Type 0 where
   any : pieces_after net touched (rest ++ joined pieces) ≤ suc (length pieces)
   taking : AllByRecursion (IsClear net touched) rest → pieces_after net touched (rest ++ joined pieces) ≤ length pieces

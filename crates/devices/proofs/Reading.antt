@@ -15,7 +15,7 @@ more_read (Some b) None now front bytes read more = absurd read
 more_read (Some b) (Some xs) None front bytes read more = absurd more
 more_read (Some b) (Some xs) (Some ys) front bytes read more = read ∙ ap (λ (rest : List ℕ). front ++ rest) more ∙ sym (append_assoc front bytes ys)
 
--- all of it is read, which is no more than so many bytes
+-- all of it is read, which is no more than `most` bytes
 pub all_read : (had now : Option (List ℕ)) (bytes : List ℕ) (most : ℕ) → Consumes had now bytes → IsAtEnd now → length bytes ≤ most → IfSome had (λ rest. bytes ≡ take most rest)
 all_read None now bytes most read end few = tt
 all_read (Some b) None bytes most read end few = absurd read
@@ -23,7 +23,7 @@ all_read (Some b) (Some ys) bytes most read end few =
     let whole : b ≡ bytes = read ∙ ap (λ (rest : List ℕ). bytes ++ rest) end ∙ append-nil bytes in
     sym (ap (λ (rest : List ℕ). take most rest) whole ∙ take_all most bytes few)
 
--- so many bytes are read
+-- `most` bytes are read
 pub front_read : (had now : Option (List ℕ)) (bytes : List ℕ) (most : ℕ) → Consumes had now bytes → length bytes ≡ most → IfSome had (λ rest. bytes ≡ take most rest)
 front_read None now bytes most read size = tt
 front_read (Some b) None bytes most read size = absurd read

@@ -6,7 +6,7 @@ use std::fs;
 use std::io::Read;
 use std::rt::Files;
 
-/// Files by their paths. It tells nothing of what they contain.
+/// Files by their paths. Its contracts say nothing of what they contain.
 #[derive(Drop)]
 pub struct DiskShelf<'a, R> {
     files: &'a R,
@@ -48,7 +48,7 @@ impl<R: Files> Shelf for DiskShelf<'_, R> {
     }
 }
 
-// Appends the bytes up to the end of the file, or until there are `limit + 1`. It gives what the reader has, where that is told.
+// Appends the bytes up to the end of the file, or until there are `limit + 1`. They are what the reader has, as far as that is known.
 fn read_front<R: Read>(file: &mut R, limit: u64, into: &mut Vec<u8>) -> Result<(), LoadFault>
     requires small { limit < 2 ^ 63 }
     requires empty { into.old.items ≡ [] }

@@ -1,6 +1,6 @@
 //! The real devices: files and a writer, as the shelf and the sink that the program works on.
 //!
-//! - [`DiskShelf`] has the files of the disk by their paths. It tells nothing of what they contain.
+//! - [`DiskShelf`] has the files of the disk by their paths. Its contracts say nothing of what they contain.
 //! - [`OutSink`] hands what it is given to a writer, such as the standard output.
 #![tactic(auto)]
 

@@ -4,7 +4,7 @@ ghost use Rattle.std.specs.Prelude.{◌≡◌, Some};
 use des_base::{PutFault, Sink};
 use std::io::Write;
 
-/// A writer as a sink. It has taken what the writer holds, where the writer tells that.
+/// A writer as a sink. It has taken what the writer holds, as far as that is known.
 #[derive(Drop)]
 pub struct OutSink<W> {
     to: W,

@@ -49,7 +49,7 @@ called l words book (Some d) c e is h = subst (λ (c : Command). MayAnswer l wor
 
 -- ---- over files that are told, not too long and well
 
--- the ending is neither want of memory nor a load that failed
+-- the ending is neither out of memory nor a load that failed
 pub record HasAnswer (e : Ending) : Type 0 where
   pub memory : e ≢ Err Memory
   pub load : (j : ℕ) → e ≢ Err (Load j)

@@ -40,7 +40,7 @@ past_here : (o : Option FaultyText) (e : Ending) (rest : Option Stop) (P : Type 
 past_here None e rest P h f = f h
 past_here (Some text) e rest P h f = h
 
--- it stopped at a file, neither by its load nor by want of memory
+-- it stopped at a file, neither by its load nor since memory ran out
 stopped_here : (l : Loads) (i : ℕ) (name : List ℕ) (limit : ℕ) (e : Ending) (rest : List ℕ → Option Stop) → e ≢ Err Memory → ((j : ℕ) → e ≢ Err (Load j)) → IsErrAnd e (StopsAt l i name limit)
     → Is e (option_and_then (λ bytes. if nat_lt limit (length bytes) then Some (Long i) else rest bytes) (l.held name))
 stopped_here l i name limit (Ok t) rest m n h = absurd h

@@ -22,7 +22,7 @@ failed j = Err (Load j)
 no_usage : (j : ℕ) → failed j ≡ Err Usage → ⊥
 no_usage j m = cc
 
--- the file of this number is one of so many, and its count rose
+-- the file of this number is one of `count`, and its count rose
 record RoseAmong (o : Outcome) (count j : ℕ) : Type 0 where
   first : 1 ≤ j
   within : j ≤ count

@@ -138,7 +138,7 @@ pub stop_handed : {A : Type 0} (r : Result A Stop) (stop : Stop) (P : Stop → T
 stop_handed (Ok x) stop P is h = tt
 stop_handed (Err e) stop P is h = λ never. subst P (sym is) (h (λ p. never (is ∙ p)))
 
--- want of memory is answered for nothing
+-- if the answer is `Memory`, nothing needs to hold
 pub memory_free : (r : Result (Kind × List ℕ) Stop) (P : Type 0) → IsErrAnd r (λ e. e ≡ Memory) → UnlessMemory r P
 memory_free (Ok reply) P is m = absurd is
 memory_free (Err e) P is m = absurd (m (same is))

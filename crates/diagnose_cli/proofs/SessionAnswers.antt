@@ -37,7 +37,7 @@ use Rattle.diagnose_cli.proofs.StopStatus.{between}
 
 -- ---- by its status
 
--- memory was wanting before anything was said
+-- memory ran out before anything was said
 pub broke_before : (due : Ending → Type 0) (lost : Type 0) → lost → (taken : Option (List ℕ)) (rose : Type 0) → Speaks due lost taken taken rose 9
 broke_before due lost q taken rose = put_speaks due lost taken taken rose 9 (λ four. omega (arith, four)) (wants_memory due lost q taken taken 9 refl (nothing_taken taken))
 

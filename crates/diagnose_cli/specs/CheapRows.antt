@@ -18,7 +18,7 @@ use Rattle.diagnose_cli.specs.declared.command.Single.TheVariants.{Cheapest}
 use Rattle.diagnose_cli.specs.Outcomes.{Outcome}
 use Rattle.diagnose_cli.specs.Rows.{CallsWith, Row}
 
--- what is asked about the three texts: the network of the model, the costs that its fault events have, the log, and so many steps
+-- what is asked about the three texts: the network of the model, the costs that its fault events have, the log, and n steps
 abbrev pub cost_asked : List ℕ → List ℕ → List ℕ → ℕ → CostAsked
 cost_asked text alarms prices n = record { net = network_of text; cost = cost_of (network_of text) prices; log = log_of alarms; steps = n }
 

@@ -1,4 +1,4 @@
--- What may come for the words of a command line: a stop by the first cause in order, what the command says, or want of memory.
+-- What may come for the words of a command line: a stop by the first cause in order, what the command says, or out of memory.
 use Rattle.std.specs.Prelude.{◌≡◌, ℕ, ◌+◌, List, [], ◌∷◌, ◌++◌, length, drop, Bool, false, cond, nat_lt, is_none, option_map, Option, Some, None, if◌then◌else◌, Err, IfErr, IsOkAnd, MatchOption}
 use Rattle.des_base.specs.CommandWords.{word_at}
 use Rattle.cost_least.specs.Costs.{cost_size}
@@ -102,7 +102,7 @@ AnswersAfter l words c book files = InOrder l words (length files + 1) (drop (le
 abbrev pub AnswersSpelled : Loads → List (List ℕ) → Command → List BookEntry → Ending → Type 0
 AnswersSpelled l words c book e = cond (is_called words c) (MayAnswer l words c book e) (e ≡ Err Usage)
 
--- what may be answered for these words with this book left, but for want of memory
+-- what may be answered for these words with this book left, unless memory runs out
 abbrev pub Due : Loads → List (List ℕ) → List BookEntry → Ending → Type 0
 Due l words book e = MatchOption (command_of words) (e ≡ Err Usage) (λ c. MayAnswer l words c book e)
 
@@ -115,6 +115,6 @@ pub record StopsEmpty (may : Ending → Type 0) (book : List BookEntry) (e : End
 abbrev pub HasNotBegun : List (List ℕ) → List BookEntry → Type 0
 HasNotBegun words book = (steps budget : ℕ) → command_of words ≡ Some (Session steps budget) → book ≡ []
 
--- What may come for these words with this book left: what is due, or want of memory before any text is put, of which a session leaves an empty book. A stop leaves an empty book. That a session ran out of memory at one of its rows is due too, with the book that it came to.
+-- What may come for these words with this book left: what is due, or out of memory before any text is put, where a session leaves an empty book. A stop leaves an empty book. That a session ran out of memory at one of its rows is due too, with the book that it came to.
 abbrev pub MayCome : Loads → List (List ℕ) → List BookEntry → Ending → Type 0
 MayCome l words book = OrMemory (StopsEmpty (Due l words book) book) (HasNotBegun words book)

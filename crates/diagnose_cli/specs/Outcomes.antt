@@ -19,7 +19,7 @@ pub record Outcome : Type 0 where
 abbrev pub outcome : Loads → List (List ℕ) → Option (List ℕ) → Option (List ℕ) → List BookEntry → ℕ → Outcome
 outcome loads words before now book status = record { loads = loads; words = words; before = before; now = now; book = book; status = status }
 
--- neither is memory wanting nor can the output not be written
+-- memory didn't run out, and the output could be written
 pub record IsPut (status : ℕ) : Type 0 where
   pub written : status ≢ 4
   pub memory : status ≢ 9

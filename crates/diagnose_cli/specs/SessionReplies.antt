@@ -93,7 +93,7 @@ pub record IsCut (net : Net) (n budget : ℕ) (rows : List Row) (book : List Boo
   pub book_is : book ≡ end.book
   pub are : texts ≡ earlier ++ last ∷ []
 
--- Memory was wanting at the row that a session came to: behind what those before it left, the book has what this one put.
+-- Memory ran out at the row that a session came to: behind what those before it left, the book has what this one put.
 pub record IsBroken (net : Net) (n budget : ℕ) (rows : List Row) (book : List BookEntry) (texts : List (List ℕ)) : Type 0 where
   pub row : Row
   pub left : Stage

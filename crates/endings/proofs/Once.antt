@@ -18,7 +18,7 @@ due_once may Q q (Err stop) d = record { says = λ m. d (λ e. m (ap_err stop e)
     ap_err : (s : Stop) → ◌≡◌ {A = Result (Kind × List ℕ) Stop} (Err s) (Err Memory) → ◌≡◌ {A = Ending} (Err s) (Err Memory)
     ap_err s e = cc
 
--- nothing was put for want of memory
+-- nothing was put, since memory ran out
 pub wants_memory : (may : Ending → Type 0) (Q : Type 0) → Q → (before now : Option (List ℕ)) (status : ℕ) → status ≡ 9 → Took before now [] → Finishes (OrMemory may Q) before now status
 wants_memory may Q q before now status nine put = record { ending = Err Memory; due = record { says = λ m. absurd (m refl); wanting = λ e. q }; shown = nine; put = put }
 

@@ -62,9 +62,9 @@ pub run_read : (held : List ℕ → Option (List ℕ)) (name : List ℕ) (limit 
     → IsReadAs held name limit (fault_of_run net) (λ text. run ≡ run_of net text)
 run_read held name limit net text run holds well is = (text, record { holds = holds; well = none_told _ (first_run_fault net text) well }, is)
 
--- ---- texts whose refusal tells the fault
+-- ---- texts whose refusal has the fault
 
--- the stop tells the fault that is found
+-- the stop has the fault that is found
 by_fault : {X : Type 0} (l : Loads) (i : ℕ) (name : List ℕ) (limit : ℕ) (fault : List ℕ → Option X) (of : X → FaultyText) (text : List ℕ) (x : X) (stop : Stop)
     → Holds l.held name limit text → fault text ≡ Some x → stop ≡ Faulty (of x) → StopsIn l i name limit (λ bytes. option_map of (fault bytes)) stop
 by_fault l i name limit fault of text x stop holds found is = inr (record { bytes = text; holds = holds; text = of x; faulty = ap (option_map of) found; told = is })

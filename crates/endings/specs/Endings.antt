@@ -58,7 +58,7 @@ text_of_faulty (Cnf fault) = line_with_two_numbers (codes "CNF ") fault.line fau
 text_of_faulty (Lrat fault) = line_with_two_numbers (codes "LRAT ") fault.line fault.code
 text_of_faulty (Cost fault) = line_with_two_numbers (codes "COST ") fault.line fault.code
 
--- the text of a stop, on one line; it is empty where memory is wanting
+-- the text of a stop, on one line; it is empty if memory ran out
 abbrev pub text_of_stop : Stop → List ℕ
 text_of_stop Usage = codes "USAGE\n"
 text_of_stop (Load file) = line_with_number (codes "LOAD ") file

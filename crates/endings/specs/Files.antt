@@ -13,11 +13,11 @@ pub record Loads : Type 0 where
   pub before : List ℕ → ℕ
   pub after : List ℕ → ℕ
 
--- what a shelf holds in its old state, and its counts of faults in the old and the new one, by the functions that tell these
+-- what a shelf holds in its old state, and its counts of faults in the old and the new one, by the functions that give these
 abbrev pub loads : {S : Type 0} → (S → List ℕ → Option (List ℕ)) → (S → List ℕ → ℕ) → S → S → Loads
 loads held faults old new = record { held = held old; before = faults old; after = faults new }
 
--- these are the bytes of the file, where that is told, and no more than the limit
+-- these are the bytes of the file, if those are known, and no more than the limit
 pub record Holds (held : List ℕ → Option (List ℕ)) (name : List ℕ) (limit : ℕ) (bytes : List ℕ) : Type 0 where
   pub fits : length bytes ≤ limit
   pub told : IfSome (held name) (λ there. there ≡ bytes)
@@ -46,7 +46,7 @@ pub record IsText (held : List ℕ → Option (List ℕ)) (name : List ℕ) (lim
 abbrev pub IsReadAs : (List ℕ → Option (List ℕ)) → List ℕ → ℕ → (List ℕ → Option FaultyText) → (List ℕ → Type 0) → Type 0
 IsReadAs held name limit fault P = (text : List ℕ) × IsText held name limit fault text × P text
 
--- the stop tells the fault of the bytes of a file
+-- the stop has the fault of the bytes of a file
 pub record IsFileFault (held : List ℕ → Option (List ℕ)) (name : List ℕ) (limit : ℕ) (fault : List ℕ → Option FaultyText) (stop : Stop) : Type 0 where
   pub bytes : List ℕ
   pub holds : Holds held name limit bytes

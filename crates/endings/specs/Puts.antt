@@ -25,7 +25,7 @@ pub record Finishes (may : Ending → Type 0) (before now : Option (List ℕ)) (
   pub shown : HasStatus ending status
   pub put : Took before now (concat (ending_texts ending))
 
--- Its texts were put, but of the last one a front alone. What a command says ends so, and a stop may, but for want of memory, for which nothing is put.
+-- Its texts were put, but of the last one a front alone. What a command says ends so, and a stop may, unless memory ran out, for which nothing is put.
 pub record IsCutOff (may : Ending → Type 0) (before now : Option (List ℕ)) : Type 0 where
   pub ending : Ending
   pub due : may ending

@@ -13,7 +13,7 @@ use Rattle.endings.specs.declared.stop.FaultyText.TheVariants.{Model, Log, Run, 
 use Rattle.endings.specs.declared.stop.Stop.{Stop}
 use Rattle.endings.specs.declared.stop.Stop.TheVariants.{Faulty, Memory}
 
--- where a model text is refused: by its fault, or since memory is wanting
+-- where a model text is refused: by its fault, or since memory ran out
 abbrev pub stop_of_model : ModelRefusal → Stop
 stop_of_model (ModelFaulty fault) = Faulty (Model fault)
 stop_of_model ModelMemory = Memory

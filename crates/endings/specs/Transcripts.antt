@@ -45,11 +45,11 @@ abbrev pub once : Result (Kind × List ℕ) Stop → Ending
 once (Ok reply) = Ok (whole reply)
 once (Err stop) = Err stop
 
--- P, or want of memory
+-- P, unless memory ran out
 abbrev pub UnlessMemory : {T : Type 0} → Result T Stop → Type 0 → Type 0
 UnlessMemory e P = e ≢ Err Memory → P
 
--- an ending that may be said, or want of memory, where Q is so
+-- an ending that may be said, or out of memory, where Q holds
 pub record OrMemory (may : Ending → Type 0) (Q : Type 0) (e : Ending) : Type 0 where
   pub says : UnlessMemory e (may e)
   pub wanting : e ≡ Err Memory → Q

@@ -68,7 +68,7 @@ impl Reply {
     }
 }
 
-/// Puts the text of an ending, and answers its status. Out of memory it puts nothing.
+/// Puts the text of an ending, and returns its status. Out of memory it puts nothing.
 #[tactic(auto, using(telling::proofs::Taking::nothing_taken, crate::proofs::Putting::one_text))]
 pub fn put_once<S: Sink>(alloc: Global, ending: Result<Reply, Stop>, out: &mut S) -> u8
     ensures puts { Puts (once ending) (S.taken out.old) (S.taken out.new) (Rose (S.faults out.old) (S.faults out.new)) result }
@@ -83,7 +83,7 @@ pub fn put_once<S: Sink>(alloc: Global, ending: Result<Reply, Stop>, out: &mut S
     }
 }
 
-// The status of an ending and its text, but for want of memory.
+// The status of an ending and its text, unless memory runs out.
 fn told(alloc: Global, ending: Result<Reply, Stop>) -> Result<(u8, Vec<u8>), Memory>
     ensures status { IfOk result (λ r. HasStatus (once ending) r.0) }
     ensures text { IfOk result (λ r. ending_texts (once ending) ≡ r.1.items ∷ []) }

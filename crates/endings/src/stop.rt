@@ -39,7 +39,7 @@ pub enum Stop {
     NoFault,
     /// The question has this size, which is above the limit.
     Large(u64),
-    /// Want of memory.
+    /// Memory ran out.
     Memory,
 }
 
@@ -148,7 +148,7 @@ fn status_of_faulty(text: FaultyText) -> u8
     }
 }
 
-/// What is printed for a stop: nothing where memory is wanting.
+/// What is printed for a stop: nothing if memory runs out.
 pub fn text_of_stop(alloc: Global, stop: Stop) -> Result<Vec<u8>, Memory>
     ensures { IfOk result (λ text. text.items ≡ text_of_stop stop) }
 {

@@ -23,7 +23,7 @@ pub record IsReadTo (net : Net) (all rest : List NumberedLine) (table : List (Op
   pub faults : (e : ℕ) → is_fault net e ≡ false → given_to earlier e ≡ None
 
 module _ (net : Net) (all rest : List NumberedLine) (line : NumberedLine) (table : List (Option ℕ)) (so_far : IsReadTo net all (line ∷ rest) table) where
-  -- one line more
+  -- one more line
   pub read_more : (price : Price) → GivesPrice net table (cost_line (tokens_of line.text)) price → IsReadTo net all rest (set table price.event (Some price.cost))
   read_more price gives = record {
     earlier = so_far.earlier ++ price ∷ [];

@@ -26,7 +26,7 @@ pub record CostLine : Type 0 where
   pub event : List ℕ
   pub cost : List ℕ
 
--- the two words behind `cost`, where there are just two
+-- the two words behind `cost`, where there are exactly two
 abbrev pub cost_line : List (List ℕ) → Option CostLine
 cost_line [] = None
 cost_line (word ∷ []) = None
@@ -112,7 +112,7 @@ cost_fault_of_lines net (header ∷ lines) = if is_cost_header (tokens_of header
 abbrev pub first_cost_fault : Net → List ℕ → Option CostFault
 first_cost_fault net bytes = cost_fault_of_lines net (counted_lines 35 bytes)
 
--- A refusal names the first fault. Want of memory may come in place of any answer.
+-- A refusal names the first fault. Any call may run out of memory instead.
 abbrev pub IsCostDue : Option CostFault → CostRefusal → Type 0
 IsCostDue fault (Fault told) = fault ≡ Some told
 IsCostDue fault Memory = ⊤

@@ -13,7 +13,7 @@ use Rattle.event_costs.specs.CostText.{CostLine, line_price, cost_shape_code, fi
 abbrev pub HasGiven : Price → List (Option ℕ) → List (Option ℕ) → Type 0
 HasGiven price old new = new ≡ slice_set old price.event (Some price.cost)
 
--- a place for each of so many events, and nothing given
+-- a place for each of `events` events, and nothing given
 pub record IsEmptyTable (events : ℕ) (table : List (Option ℕ)) : Type 0 where
   pub long : length table ≡ events
   pub none : (e : ℕ) → given_at table e ≡ None

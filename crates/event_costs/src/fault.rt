@@ -20,7 +20,7 @@ pub struct CostFault {
 pub enum CostRefusal {
     /// The text has a fault.
     Fault(CostFault),
-    /// Want of memory.
+    /// Memory ran out.
     Memory,
 }
 

@@ -32,7 +32,7 @@ pub fn read_costs(alloc: Global, bytes: &[u8], net: &Network) -> Result<CostTabl
     read_prices(alloc, net, lines)
 }
 
-// The table that the lines after the first say.
+// The table that the lines after the first give.
 fn read_prices(alloc: Global, net: &Network, mut lines: Lines) -> Result<CostTable, CostRefusal>
     ensures { ReadsPrices net.now lines.entry result }
 {

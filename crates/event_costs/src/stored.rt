@@ -1,4 +1,4 @@
-// What events cost, as a closure answers it that is stored with its network.
+// What events cost, by a closure that is stored with its network.
 ghost use Rattle.std.specs.Prelude.{◌≡◌, ℕ, ◌<◌, length, true};
 ghost use Rattle.des_net.specs.Network.{is_fault};
 ghost use Rattle.event_costs.specs.Prices.{IsPrice};

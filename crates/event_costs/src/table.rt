@@ -43,7 +43,7 @@ impl CostTable {
         Ok(CostTable { given })
     }
 
-    /// What the event of this number costs: 1 where it isn't a fault.
+    /// What the event of this number costs: 1 if it isn't a fault.
     pub fn cost(&self, event: u32) -> u32
         requires { event < length self.now }
         ensures cost { result ≡ cost_at self.now event }

@@ -14,12 +14,12 @@ use Rattle.replay.specs.Explanation.{IsLeast}
 pub best_run : (net : Net) (log : Log) (n : ℕ) (best : Best) → IsExplanation net log n best → IsLeast net log n best.faults → IsBestRun net log n best.faults best.run
 best_run net log n best given least = record { matched = given.matched; best = record { least = least; explains = given.explains; faults = given.faults } }
 
--- with all columns that the counter may still get, the variables are so many at most
+-- with all columns that the counter may still get, there are at most `most` variables
 pub record HaveFew {R : Type 0} (most : ℕ) (parts : Parts R) : Type 0 where
   pub columns : length parts.counter.columns ≤ MOST_COLUMNS
   pub few : parts.vars + (MOST_COLUMNS - length parts.counter.columns) * length parts.counter.inputs ≤ most
 
--- a call makes one more at most
+-- a call makes at most one more
 pub still_few : {R : Type 0} (most : ℕ) (old new : Parts R) → KeepsStepsAndLog 1 old new → length new.counter.columns ≤ MOST_COLUMNS → HaveFew most old → HaveFew (most + 1) new
 still_few most old new goes within few = record { columns = within; few = by }
   where

@@ -34,7 +34,7 @@ use Rattle.run_decode.specs.RunNaming.{truth_of}
 use Rattle.run_decode.specs.WholeNaming.{AreClausesOf, AreCodedTogether}
 use Rattle.step_encode.specs.Coded.{CodedSteps, code_grid}
 
--- The run has an event just where a variable of the event is true.
+-- The run has an event exactly if a variable of the event is true.
 pub run_has : (net : Net) (log : Log) (steps : CodedSteps) (code : CodedLog) (value : ℕ → Bool) (run : List RunStep) → IsNetwork net → IsValidLog log → BelongTogether net log steps code → IsTrueRun steps code value →
     run ≡ decoded_run net log (truth_of steps code value) (least_order (length log.alarms) log.pairs) steps.steps → (e : ℕ) → e < length net.events →
     Contains (word_of run) e ↔ ((t : ℕ) × (t < steps.steps) × (value (grid_variable (code_grid steps) e (suc t)) ≡ true))

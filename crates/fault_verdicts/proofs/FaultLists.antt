@@ -12,7 +12,7 @@ one_passes p x h = rw h refl
 pub none_passes : (p : ℕ → Bool) (x : ℕ) → p x ≡ false → filter p (x ∷ []) ≡ []
 none_passes p x h = rw h refl
 
--- one number more
+-- one more number
 pub list_more : (p : ℕ → Bool) (n : ℕ) (list new : List ℕ) → list ≡ filter p (numbers_below n) → new ≡ list ++ filter p (n ∷ []) → new ≡ filter p (numbers_below (n + 1))
 list_more p n list new so_far added = added ∙ ap (λ xs. xs ++ filter p (n ∷ [])) so_far ∙ by (p n) refl
   where

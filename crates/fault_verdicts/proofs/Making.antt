@@ -31,7 +31,7 @@ clause_is steps grid vars e none first whole l empty pushed literal is written =
     ∙ ap (λ (g : Grid). first ++ event_signed g true e) is
     ∙ ap (λ (ls : List Lit). ls ++ event_signed (code_grid steps) true e) (pushed ∙ ap (λ (ls : List Lit). ls ++ l ∷ []) empty ∙ ap (λ (x : Lit). x ∷ []) literal)
 
--- the clause as an axiom more
+-- the clause as a further axiom
 pub clause_put : (book mid entries : List BookEntry) (slice whole : Clause) → mid ≡ book → slice ≡ whole → entries ≡ mid ++ axiomatic slice ∷ [] → entries ≡ book ++ axiomatic whole ∷ []
 clause_put book mid entries slice whole same is pushed = pushed ∙ ap (λ (b : List BookEntry). b ++ axiomatic slice ∷ []) same ∙ ap (λ (c : Clause). book ++ axiomatic c ∷ []) is
 

@@ -1,4 +1,4 @@
--- How what stands ready for verdicts begins, and how it goes on with columns, with a literal more, and with what a solver learns.
+-- How what stands ready for verdicts begins, and how it goes on with columns, with a further literal, and with what a solver learns.
 use Rattle.std.proofs.Common.{◌≡◌, ◌≢◌, ◌∙◌, ◌⊎◌, inl, inr, ℕ, zero, suc, ◌+◌, ◌-◌, ◌*◌, ◌<◌, ◌≤◌, ◌==◌, Bool, true, false, List, [], ◌∷◌, ◌++◌, length, None, Some, refl, sym, ap, subst, arith, Contains, append_assoc}
 use Rattle.std.proofs.lemmas.List.{map-append}
 use Rattle.std.proofs.Math.Nat.{mul-le-mul_right}
@@ -242,9 +242,9 @@ ready_by_solver may gives parts solver book entries made same ready with' = reco
   small = with'.small;
 }
 
--- ---- with a literal more
+-- ---- with a further literal
 
--- there is room for a variable more
+-- there is room for a further variable
 room_more : {R : Type 0} (may : R → ℕ → Type 0) (gives : R → ℕ → ℕ → Type 0) (parts : Parts R) (book : List BookEntry) (made : List (ℕ × ℕ)) (vars : ℕ) → AreReadyWith may gives parts book made → parts.vars ≤ 1000000000 → vars ≡ parts.vars + 1 → HaveRoom parts.step parts.code.coded parts.counter vars
 room_more may gives parts book made vars with' few is =
     let room = with'.beside.coded in

@@ -25,7 +25,7 @@ riders_more : (question : BuiltQuestion) (riders : List Rider) (rider : Rider) �
 riders_more question [] rider = refl
 riders_more question (first ∷ riders) rider = riders_more (rider_built question first) riders rider
 
--- so many columns behind them
+-- with this many columns behind them
 abbrev with_columns : List Rider → ℕ → List Rider
 with_columns riders zero = riders
 with_columns riders (suc columns) = with_columns riders columns ++ a_column ∷ []

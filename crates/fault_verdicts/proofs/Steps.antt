@@ -31,7 +31,7 @@ any_next (x ∷ steps) (suc i) other e less none h =
     let later = any_next steps i other e (omega (arith, less)) parts.1 h in
     ap (λ b. b || any_has e (take (suc i) steps)) parts.0 ∙ later
 
--- none of one step more
+-- none of one more step
 pub none_next : (steps : List RunStep) (i : ℕ) (step : RunStep) (e : ℕ) → i < length steps → step ≡ get_or steps i step → any_has e (take i steps) ≡ false → has_this e (event_of step) ≡ false → any_has e (take (i + 1) steps) ≡ false
 none_next steps i step e less is none h =
     let next : suc i ≡ i + 1 = omega arith in

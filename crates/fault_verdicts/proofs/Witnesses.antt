@@ -108,7 +108,7 @@ unkept_of net log best e budget old new before after found goes judged = inr (fo
 
 -- ---- copies, step by step
 
--- one step more is copied
+-- one more step is copied
 pub copied_next : (steps : List RunStep) (i : ℕ) (copy more : List RunStep) (step same : RunStep) → i < length steps → step ≡ get_or steps i step → copy ≡ take i steps → same ≡ step → more ≡ copy ++ same ∷ [] → more ≡ take (i + 1) steps
 copied_next steps i copy more step same less is so_far copied added =
     added ∙ ap (λ xs. xs ++ same ∷ []) so_far ∙ ap (λ s. take i steps ++ s ∷ []) (copied ∙ is) ∙ sym (take_more steps i step less)

@@ -44,7 +44,7 @@ pub record IsExcludedFound (axioms : List Clause) (since : List BookEntry) (net 
   pub literal : ℕ
   pub refuted : IsRefutedBy axioms since net log n k e (with_event literal)
 
--- a best run that has the event just where the first one hasn't
+-- a best run that has the event exactly if the first one hasn't
 pub record IsPossibleFound (net : Net) (log : Log) (n k e : ℕ) (first other : List RunStep) : Type 0 where
   pub possible : IsPossible net log n e
   pub best : IsBestRun net log n k other

@@ -16,7 +16,7 @@ use Rattle.proof_ledger.specs.Book.{BookEntry}
 use Rattle.replay.specs.Traced.{word_of}
 use Rattle.replay.specs.declared.run.RunStep.{RunStep}
 
--- What is judged: the best explanations of a log within so many steps, beside one that is known. Each question may learn as many clauses as the budget says.
+-- What is judged: the best explanations of a log within a number of steps, beside one that is known. Each question may learn as many clauses as the budget says.
 pub record Matter : Type 0 where
   pub net : Net
   pub log : Log
@@ -30,7 +30,7 @@ pub record Matter : Type 0 where
 abbrev pub IsAskedOf : Matter → ℕ → List BookEntry → List BookEntry → Verdict → Type 0
 IsAskedOf m e old new verdict = IsJudged m.net m.log m.steps m.best.faults e m.budget m.best.run old new verdict
 
--- A best run that was found for an earlier event differs from the known one in this event too, which is possible so. Nothing was asked, and the book stays.
+-- A best run that was found for an earlier event differs from the known one in this event too, which shows that it is possible. Nothing was asked, and the book stays.
 pub record IsShown (m : Matter) (e : ℕ) (old new : List BookEntry) (verdict : Verdict) : Type 0 where
   pub run : List RunStep
   pub verdict_is : verdict ≡ Possible run

@@ -1,4 +1,4 @@
--- The question about one event on its way: what is made and assumed for it, and what is asked of the solver.
+-- The question about one event while it is asked: what is made and assumed for it, and what is asked of the solver.
 use Rattle.std.specs.Prelude.{◌≡◌, ℕ, zero, suc, ◌+◌, ◌*◌, ◌≤◌, ◌==◌, Bool, true, false, List, [], ◌∷◌, ◌++◌, length, map, Option, None, Some, Contains, count_by}
 use Rattle.card_counter.specs.CounterState.{CounterState, positive}
 use Rattle.des_base.specs.Lists.{numbers_below}
@@ -31,7 +31,7 @@ signed_literal grid sign e t = record { var = grid_variable grid e (suc t); posi
 abbrev pub event_signed : Grid → Bool → ℕ → List Lit
 event_signed grid sign e = map (signed_literal grid sign e) (numbers_below grid.steps)
 
--- Steps and log of a question stay as they are, and so does what ranks. The counter perhaps has further columns, and beside their variables at most so many were made.
+-- Steps and log of a question stay as they are, and so does what ranks. The counter perhaps has further columns, and beside their variables at most `more` were made.
 pub record KeepsStepsAndLog {R : Type 0} (more : ℕ) (old new : Parts R) : Type 0 where
   pub step : new.step ≡ old.step
   pub code : new.code ≡ old.code
@@ -46,7 +46,7 @@ pub record HasMade {R : Type 0} (may : R → ℕ → Type 0) (gives : R → ℕ 
   pub there : Contains made (literal.var, e)
   pub holds : literal ≡ positive literal.var
 
--- of so many inputs at most k: of none there is nothing to ask
+-- at most k of this many inputs: of none there is nothing to ask
 abbrev pub at_most_of : ℕ → ℕ → Option ℕ
 at_most_of zero k = None
 at_most_of (suc m) k = Some k

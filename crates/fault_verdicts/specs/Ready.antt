@@ -25,6 +25,6 @@ pub record AreReadyWith {R : Type 0} (may : R → ℕ → Type 0) (gives : R →
   pub built : IsBuiltWith parts book
   pub small : MOST_COLUMNS * length parts.counter.inputs ≤ MOST_SIZE
 
--- So it is with whatever variables were made by earlier calls.
+-- This holds with the variables that earlier calls made, whichever they are.
 abbrev pub AreReadyForVerdicts : {R : Type 0} → (R → ℕ → Type 0) → (R → ℕ → ℕ → Type 0) → Parts R → List BookEntry → Type 0
 AreReadyForVerdicts may gives parts book = (made : List (ℕ × ℕ)) × AreReadyWith may gives parts book made

@@ -12,7 +12,7 @@ use Rattle.prop_core.specs.Clauses.{Clause}
 use Rattle.run_decode.specs.QuestionAxioms.{BuiltQuestion, alone_built, column_built, question_built, steps_built}
 use Rattle.step_encode.specs.Coded.{code_grid, variable_count}
 
--- a column more of the counter, or a variable that is made for an event
+-- a further column of the counter, or a variable that is made for an event
 pub data Rider : Type 0 where
   a_column : Rider
   an_event : (event : ℕ) → Rider

@@ -38,7 +38,7 @@ pub record PosesEvents (net : Net) (log : Log) (n k : ℕ) (grid : Grid) (made :
   pub without_event : (e : ℕ) → e < length net.events → IsPosedOf whole (assumed ++ no_step_literals grid e) net log n k e without
   pub with_event : (var e : ℕ) → Contains made (var, e) → IsPosedOf whole (assumed ++ positive var ∷ []) net log n k e (with_event var)
 
--- So it is over each network and valid log.
+-- This holds for each network and valid log.
 abbrev pub EventsArePosed : Type 0
 EventsArePosed = (net : Net) (log : Log) (n k : ℕ) (meanings : List (ℕ × Meaning)) (grid : Grid) (made : List (ℕ × ℕ)) (whole : List Clause) (assumed : List Lit) →
     IsNetwork net → IsValidLog log → AsksBeside net log n k meanings grid made whole assumed → PosesEvents net log n k grid made whole assumed

@@ -47,6 +47,6 @@ pub record AreApartVerdicts (net : Net) (log : Log) (n e : ℕ) : Type 0 where
   pub possible_not_excluded : IsPossible net log n e → IsExcluded net log n e → ⊥
   pub certain_not_excluded : (k : ℕ) (word : List ℕ) (order : List Entry) → IsBest net log n k word order → IsCertain net log n e → IsExcluded net log n e → ⊥
 
--- So it is for each event.
+-- This holds for each event.
 abbrev pub VerdictsAreApart : Type 0
 VerdictsAreApart = (net : Net) (log : Log) (n e : ℕ) → AreApartVerdicts net log n e

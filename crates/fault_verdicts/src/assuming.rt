@@ -13,7 +13,7 @@ use proof_ledger::Ledger;
 use prop_core::Lit;
 use std::alloc::Global;
 
-// The guards, and where there is something to count the literal for at most k faults. The counter gets the columns that it lacks.
+// The guards, and, if there is something to count, the literal for at most k faults. The counter gets the columns that it lacks.
 pub fn guards_within<R: Fn(u32) -> u64>(
     alloc: Global,
     parts: &mut Parts<R>,
@@ -35,7 +35,7 @@ pub fn guards_within<R: Fn(u32) -> u64>(
     Ok(assumed)
 }
 
-// What is assumed where the known run has the event: that it happens in no step.
+// What is assumed if the known run has the event: that it happens in no step.
 pub fn assume_none<R: Fn(u32) -> u64>(
     alloc: Global,
     parts: &mut Parts<R>,
@@ -56,7 +56,7 @@ pub fn assume_none<R: Fn(u32) -> u64>(
     Ok(assumed)
 }
 
-// What is assumed where it hasn't: a literal that gives the event in some step.
+// What is assumed if it doesn't: a literal that gives the event in some step.
 pub fn assume_some<R: Fn(u32) -> u64>(
     alloc: Global,
     parts: &mut Parts<R>,

@@ -73,8 +73,8 @@ impl<'a, R: Fn(u32) -> u64> Judge<'a, R> {
 
     /// What all best explanations say of a fault event.
     ///
-    /// After want of memory the book may have grown, and the next event may be judged all the same. A question makes a variable
-    /// at most. Where there are more than 1,000,000,000, memory counts as wanting.
+    /// If memory runs out, the book may have grown, and the next event may still be judged. A question makes at most one
+    /// variable. More than 1,000,000,000 variables count as out of memory.
     pub fn judge(&mut self, event: EventId) -> Result<Verdict, Memory>
         requires ready { AreReadyForVerdicts R.pre R.post self.old.parts self.old.book }
         requires event { event < length self.old.matter.net.events }

@@ -18,7 +18,7 @@ pub fn fault_list(alloc: Global, net: &Network) -> Result<Vec<EventId>, Memory>
     Ok(list)
 }
 
-// Appends the event where it is a fault.
+// Appends the event if it is a fault.
 fn push_fault(net: &Network, event: EventId, list: &mut Vec<EventId>) -> Result<(), Memory>
     requires { event < length net.now.events }
     ensures { OnOk result (list.new.items ≡ list.old.items ++ filter (is_fault net.now) (event ∷ [])) }

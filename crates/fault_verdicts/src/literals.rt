@@ -33,7 +33,7 @@ pub fn push_event(
     Ok(())
 }
 
-// The clause of the next variable: where that is true, the event happens in some step.
+// The clause of the next variable: if that is true, the event happens in some step.
 fn some_step<R: Fn(u32) -> u64>(
     alloc: Global,
     parts: &Parts<R>,
@@ -65,7 +65,7 @@ fn add_clause<R: Fn(u32) -> u64>(solver: &mut Solver<R>, book: &mut Ledger, clau
     solver.adopt(book);
 }
 
-// Makes a literal for the event, and adds the axiom that gives the event in some step where it holds.
+// Makes a literal for the event, and adds the axiom that gives the event in some step if it holds.
 pub fn in_some_step<R: Fn(u32) -> u64>(
     alloc: Global,
     parts: &mut Parts<R>,

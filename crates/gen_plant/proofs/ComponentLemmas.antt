@@ -140,7 +140,7 @@ pub unit_fix : trans_refusal (trips_too ∷ []) 0 2 (codes "fix") 0 ≡ None
 unfolding trans_refusal trans_count
 unit_fix = refl
 
--- ---- what stands after all_change call
+-- ---- what stands after each call
 
 pub with_up : (base net : Net) (comp : ℕ) → slice_get base.components comp ≡ Some no_component → net ≡ change_component comp (with_state (codes "up") true) base → Stands base comp (with_state (codes "up") true no_component) net
 with_up base net comp h is = begun base comp (with_state (codes "up") true) no_component net h is
@@ -223,7 +223,7 @@ unit_added n comp net named stated new name is called is_named at is_stated is_n
     let whole : with_component_at named comp unit_component ≡ first_components (n + 1) = rw (is_named, at, called, is) (one_more n) in
     is_new ∙ twice ∙ whole
 
--- ---- all_change has an initial state
+-- ---- each has an initial state
 
 units_start : (a n : ℕ) → place_by lacks_init (map (λ i. unit_component) (range_with_len a n)) ≡ None
 units_start a zero = refl

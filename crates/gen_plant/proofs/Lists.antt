@@ -21,7 +21,7 @@ range_below a (suc n) most h = (omega arith, range_below (a + 1) n most (omega a
 pub units_below : (n : ℕ) → AllByRecursion (λ j. j < n + 1) (units n)
 units_below n = range_below 1 n (n + 1) (omega arith)
 
--- ---- what is true of all_change
+-- ---- what is true of each
 
 filter_step : {X : Type 0} (P : X → Type 0) (b : Bool) (x : X) (xs : List X) → P x → AllByRecursion P xs → AllByRecursion P (cond b (x ∷ xs) xs)
 filter_step P true x xs h rest = (h, rest)

@@ -1,4 +1,4 @@
--- Generated plants: a bus, and units that trip over it, one after another. A plant is told by how many units it has, and by a number from which it follows which of them trip.
+-- Generated plants: a bus, and units that trip over it, one after another. A plant is given by how many units it has, and by a number from which it follows which of them trip.
 use Rattle.std.specs.Prelude.{ℕ, zero, suc, ◌+◌, ◌-◌, ◌*◌, ◌%◌, Bool, true, false, ◌==◌, List, [], ◌∷◌, ◌++◌, length, map, filter, flat_map, codes, decimal}
 use Rattle.std.specs.List.{range_with_len}
 use Rattle.des_base.specs.Lists.{numbers_below}
@@ -99,7 +99,7 @@ alarm_name i = codes "a" ++ decimal i
 abbrev pub trip_alarm : ℕ → Alarm
 trip_alarm i = an_alarm (alarm_name i) (trip_label i ∷ []) false
 
--- of so many alarms each is before the next
+-- of `count` alarms each is before the next
 abbrev pub in_a_row : ℕ → List (ℕ × ℕ)
 in_a_row count = map (λ k. (k, k + 1)) (numbers_below (count - 1))
 

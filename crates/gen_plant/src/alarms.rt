@@ -12,7 +12,7 @@ use des_base::Memory;
 use log_order::AlarmLog;
 use std::alloc::Global;
 
-/// Adds the alarms of those of so many units that trip, and a pair from each alarm to the next.
+/// Adds the alarms of those of the first `units` units that trip, and a pair from each alarm to the next.
 pub fn add_alarms(alloc: Global, log: &mut AlarmLog, units: u32, start: u64) -> Result<(), Memory>
     requires few { units ≤ most_units }
     requires empty { log.old ≡ no_log }

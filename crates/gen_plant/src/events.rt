@@ -11,7 +11,7 @@ use des_base::{ActionId, CompId, Memory};
 use des_net::{Builder, Part};
 use std::alloc::Global;
 
-/// Adds the events of so many units.
+/// Adds the events of `units` units.
 pub fn add_events(alloc: Global, builder: &mut Builder, units: u32) -> Result<(), Memory>
     requires few { units ≤ most_units }
     requires built { builder.old ≡ first_components units }

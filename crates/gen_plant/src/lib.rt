@@ -2,7 +2,7 @@
 //!
 //! Each unit jams, which is a fault and isn't seen; then it trips, which moves the bus too; then it is fixed. Which units have
 //! tripped follows from a number, the start: so anybody can make the same plant again, of any size up to 900 units.
-//! `specs/Plant.antt` says which plant it is; `generate` makes just that one.
+//! `specs/Plant.antt` says which plant it is; `generate` makes exactly that one.
 #![tactic(auto)]
 
 mod alarms;

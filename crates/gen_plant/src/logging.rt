@@ -1,4 +1,4 @@
-// The log's calls where it refuses nothing, so that memory alone can be wanting.
+// The log's calls where it refuses nothing, so that they fail only if memory runs out.
 ghost use Rattle.std.specs.Prelude.{◌≡◌, None, [], ◌∷◌, length, false, IfOk, OnOk};
 ghost use Rattle.log_order.specs.Adding.{alarm_refusal, with_alarm, before_refusal, with_pair};
 
@@ -14,7 +14,7 @@ fn only_memory(refusal: LogRefusal) -> Memory
     }
 }
 
-// Adds an alarm of one label, and answers its number.
+// Adds an alarm of one label, and returns its number.
 pub fn add_alarm(log: &mut AlarmLog, id: Name, label: Name) -> Result<u32, Memory>
     requires free { alarm_refusal log.old id (label ∷ []) ≡ None }
     ensures ok { OnOk result (log.new ≡ with_alarm log.old id (label ∷ []) false) }

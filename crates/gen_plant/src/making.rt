@@ -22,8 +22,8 @@ pub struct Plant {
     pub tripped: u32,
 }
 
-/// The plant of so many units, of which those trip that the start tells. Its network is as one that was read (`as_read`), so the text
-/// that is printed of it reads back as that network.
+/// The plant of `units` units, some of which trip, as follows from the start. Its network is like one that was read (`as_read`), so
+/// the text that is printed of it reads back as that network.
 pub fn generate(alloc: Global, units: u32, start: u64) -> Result<Plant, Memory>
     requires { units ≤ most_units }
     ensures net { IfOk result (λ plant. plant.net ≡ plant_net units) }

@@ -12,7 +12,7 @@ use des_base::{CompId, Memory};
 use des_net::Builder;
 use std::alloc::Global;
 
-/// Adds the bus, and so many units.
+/// Adds the bus, and `units` units.
 pub fn add_components(alloc: Global, builder: &mut Builder, units: u32) -> Result<(), Memory>
     requires empty { builder.old ≡ no_net }
     requires few { units ≤ most_units }

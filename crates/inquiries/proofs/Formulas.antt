@@ -57,7 +57,7 @@ true_units value (l ∷ assumed) h = (one (literal_true value l) h.0, true_units
     one true is = is
     one false is = is
 
--- an assignment makes it true just where something explains within the bound
+-- an assignment makes it true exactly if something explains within the bound
 pub satisfied_where_explained : (clauses : List Clause) (assumed : List Lit) (net : Net) (log : Log) (n : ℕ) (bound : Option ℕ) → IsFaithful clauses assumed net log n bound →
     IsSatisfiable (clauses ++ unit_clauses assumed) ↔ IsExplainedWithin net log n bound
 satisfied_where_explained clauses assumed net log n bound faithful = (sound, complete)

@@ -184,7 +184,7 @@ inputs_same : (net : Net) (log : Log) (n columns : ℕ) → (question_built net 
 inputs_same net log n zero = refl
 inputs_same net log n (suc columns) = inputs_same net log n columns
 
--- a column more leaves the literals of those before
+-- a further column leaves the literals of those before
 literal_stays : (counter : CounterState) (first k : ℕ) → k < length counter.columns → bound_literal (with_column counter first) k ≡ bound_literal counter k
 literal_stays counter first k less =
     ap (λ (column : List ℕ). negative (var_at column (length counter.inputs - 1))) (get_or-append counter.columns (range_with_len first (length counter.inputs) ∷ []) [] k less)

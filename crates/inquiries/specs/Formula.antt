@@ -1,4 +1,4 @@
--- A question as a formula of its own: network, log, n and the bound determine it, and some assignment makes it true just where something explains the log within the bound.
+-- A question as a formula of its own: network, log, n and the bound determine it, and some assignment makes it true exactly if something explains the log within the bound.
 use Rattle.std.specs.Prelude.{◌≡◌, ◌↔◌, ℕ, Bool, All, List, ◌++◌, length, map, nat_eq, Option, None, if◌then◌else◌}
 use Rattle.card_counter.specs.CounterState.{CounterState}
 use Rattle.des_net.specs.Network.{Net}
@@ -43,7 +43,7 @@ question_formula net log n bound = formula (question_within net log n bound).var
 abbrev pub IsSatisfiable : List Clause → Type 0
 IsSatisfiable clauses = (assignment : ℕ → Bool) × AllClausesTrue assignment clauses
 
--- It is the formula of the question, over variables that it has. Some assignment makes it true just where something explains the log within the bound.
+-- It is the formula of the question, over variables that it has. Some assignment makes it true exactly if something explains the log within the bound.
 -- The book has the axioms of the question, and nothing else. With what is assumed they pose it within the bound.
 pub record IsFormulaOf (net : Net) (log : Log) (n : ℕ) (bound : Option ℕ) (book : List BookEntry) (f : Formula) : Type 0 where
   pub is : f ≡ question_formula net log n bound

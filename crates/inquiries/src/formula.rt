@@ -17,7 +17,7 @@ use proof_text::Cnf;
 use prop_core::{Clauses, Lit};
 use std::alloc::Global;
 
-/// Asks for the formula of the question, with at most so many faults where a bound is set.
+/// Asks for the formula of the question, with at most as many faults as the bound if one is set.
 #[derive(Drop)]
 pub struct FormulaWithin {
     pub bound: Option<u8>,
@@ -49,7 +49,7 @@ impl Inquiry for FormulaWithin {
     }
 }
 
-/// The bound, where there is a fault to count.
+/// The bound, if there is a fault to count.
 pub fn counted(counter: &Counter, bound: Option<u8>) -> Option<u32>
     ensures bound { result ≡ counted_bound counter.now bound }
     ensures boundable { IfSome result (IsBoundable counter.now) }

@@ -31,13 +31,13 @@ pub trait Inquiry {
     /// What comes of it.
     type Answer;
 
-    /// What has to be so of network, log and steps.
+    /// What has to hold of network, log and steps.
     ghost may: { Self → Net → Log → ℕ → Type 0 };
 
     /// What the answer means beside the book that is left.
     ghost says: { Self → Net → Log → ℕ → List BookEntry → Self.Answer → Type 0 };
 
-    /// What is left in the book, also where memory is wanting.
+    /// What is left in the book, even if memory runs out.
     ghost leaves: { Self → Net → Log → ℕ → List BookEntry → Type 0 };
 
     /// Asks it. The book has the axioms of the question alone, and the parts are theirs.
@@ -56,9 +56,9 @@ pub trait Inquiry {
     ghost fits: { (s : Self) (net : Net) (log : Log) (n : ℕ) → may s net log n → IsWithinLimits net log n };
 }
 
-/// Writes the question which runs within so many parallel steps explain the log into an empty book, and makes the inquiry.
+/// Writes the question which runs within `steps` parallel steps explain the log into an empty book, and makes the inquiry.
 ///
-/// Where memory is wanting before the question is written whole, the book stays empty.
+/// If memory runs out before the question is written whole, the book stays empty.
 pub fn pose<Q: Inquiry>(
     alloc: Global,
     case: &Case,
@@ -152,8 +152,8 @@ fn pose_by_solver<T: Fn(u32, u32) -> bool, R: Fn(u32) -> u64, Q: Inquiry>(
     }
 }
 
-/// Writes the question which runs within so many parallel steps explain the log into an empty book, with a test and a solver that
-/// are given. After want of memory the book may hold what was put so far.
+/// Writes the question which runs within `steps` parallel steps explain the log into an empty book, with a test and a solver that
+/// are given. If memory runs out, the book may hold what was put so far.
 pub fn begin<T: Fn(u32, u32) -> bool, R: Fn(u32) -> u64>(
     alloc: Global,
     case: &Case,

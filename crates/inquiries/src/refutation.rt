@@ -22,7 +22,7 @@ pub struct Refutation {
 /// What comes of asking for a refutation.
 #[derive(Drop)]
 pub enum Refuted {
-    /// The proof that nothing explains the log within the bound, or at all where there is none.
+    /// The proof that nothing explains the log within the bound, or at all if there is none.
     Within { bound: Option<u8>, proof: Proof },
     /// A run without faults explains the log: there is nothing to refute.
     Nothing,

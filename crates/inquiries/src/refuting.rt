@@ -38,7 +38,7 @@ pub fn refuting_proof<R: Fn(u32) -> u64>(
     refutation_proof(alloc, book, assumed.as_slice(), last)
 }
 
-// What is assumed within a bound: the guards of the log, and the counter's literal where there is a fault to count.
+// What is assumed within a bound: the guards of the log, and the counter's literal if there is a fault to count.
 fn assumed_within<R: Fn(u32) -> u64>(
     alloc: Global,
     parts: &Parts<R>,

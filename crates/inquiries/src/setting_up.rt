@@ -22,7 +22,7 @@ pub trait NetworkSearch<Out> {
     /// The network that it is about.
     ghost about: { Self → Net };
 
-    /// What has to be so before it begins.
+    /// What has to hold before it begins.
     ghost may: { Self → Type 0 };
 
     /// What the answer means, by what was put before, what is put now, and the book that is left.
@@ -46,7 +46,7 @@ pub trait NetworkSearch<Out> {
         ensures { says self.now out.old out.new book.new.entries result };
 }
 
-/// Begins a search over an empty book, about runs of a network within so many parallel steps. Where memory is wanting before it begins, nothing has
+/// Begins a search over an empty book, about runs of a network within `steps` parallel steps. If memory runs out before it begins, nothing has
 /// been put.
 ///
 /// Which events touch a common component is looked up in a table.

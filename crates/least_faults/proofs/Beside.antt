@@ -17,7 +17,7 @@ use Rattle.run_decode.specs.QuestionAxioms.{BuiltQuestion}
 use Rattle.run_decode.specs.WholeNaming.{AreClausesOf}
 use Rattle.proof_ledger.proofs.AxiomLists.{axioms_added}
 
--- ---- what a question is with columns more
+-- ---- what a question is with further columns
 
 abbrev ArePartsOf : BuiltQuestion → Type 0
 ArePartsOf question = AreParts question.steps question.code question.counter question.vars question.axioms
@@ -47,7 +47,7 @@ room_by_columns question (suc columns) room some few =
     let before = columns_built question columns in
     room_grows before.steps before.code before.counter before.vars (room_by_columns question columns room some (omega (arith, few))) (some_before question columns some) (few_before question columns few)
 
--- the clauses of so many columns more, one column behind the other
+-- the clauses of this many further columns, one column behind the other
 further_clauses : BuiltQuestion → ℕ → List Clause
 further_clauses question zero = []
 further_clauses question (suc columns) = let before = columns_built question columns in further_clauses question columns ++ next_clauses before.counter before.vars

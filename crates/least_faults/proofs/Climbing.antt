@@ -309,7 +309,7 @@ module _ (steps : CodedSteps) (code : CodedLog) (counter : CounterState) (vars :
       with_found left asked'.searching (Undecided 0 None) (finals_put None asked'.searching.since asked.Spent asked'.put) (omega (arith, asked'.put.few)) (at_conflict None left asked'.means)
       (nothing_found steps code counter vars log first book asked'.searching.since asked'.searching.whole parts own valid same begun at_first budget (nothing_left (count_by is_learnt asked'.searching.since) left asked'.searching.paid asked'.means.nothing) (asked'.put.unbounded spent_not))
 
-  -- where memory is wanting at a bound, the final entries are those that refute the bounds below
+  -- if memory runs out at a bound, the final entries are those that refute the bounds below
   pub refuses : (old : CounterState) (k : ℕ) (since more : List BookEntry) → k ≤ 256 → KeepsColumns old counter → FinalsAreBelow code old k since → count_by is_final since ≤ k → list_any is_final more ≡ false → book ≡ first ++ (since ++ more) → HasRefused (whole_meanings steps code counter) net log steps.steps first book
   refuses old k since more small keeps finals few none whole = record {
     since = since ++ more;

@@ -1,4 +1,4 @@
--- The parts of a question, and their book, with a column more.
+-- The parts of a question, and their book, with a further column.
 use Rattle.std.proofs.Common.{◌≡◌, ◌∙◌, ℕ, ◌+◌, ◌-◌, ◌*◌, ◌<◌, ◌≤◌, Contains, List, [], ◌∷◌, ◌++◌, map, take, drop, length, max, refl, sym, ap, subst, arith, append_assoc, append-nil, length-append}
 use Rattle.std.proofs.Math.Seq.{take-append_seam, drop-append_seam}
 use Rattle.std.proofs.lemmas.List.Elements.{All-weaker, Contains-append_right as append_right}

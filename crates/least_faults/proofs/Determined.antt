@@ -110,7 +110,7 @@ question_begun net log n steps code grid made vars none stepped written inputs c
     (built ∙ ap (λ (g : Grid). built_log net g made (without_names log)) (beside ∙ ap code_grid is) ∙ ap (λ first. built_log net (code_grid (steps_built net n)) first (without_names log)) count)
     (subst (λ (s : CodedSteps). AreInputs s code inputs) is are)
 
--- a column more
+-- a further column
 pub column_determined : (steps : CodedSteps) (code : CodedLog) (old new : CounterState) (vars then : ℕ) (book mid entries : List BookEntry) (clauses : List Clause) →
     new ≡ with_column old vars → then ≡ vars + length old.inputs → mid ≡ book → clauses ≡ next_clauses old vars → entries ≡ mid ++ map axiomatic clauses →
     record { steps = steps; code = code; counter = new; vars = then; axioms = axioms_of entries } ≡ column_built (record { steps = steps; code = code; counter = old; vars = vars; axioms = axioms_of book })

@@ -233,7 +233,7 @@ pub record HasDraft (steps : CodedSteps) (code : CodedLog) (counter : CounterSta
   pub long : length (clauses_of entries) ≡ length adopted + count
   pub known : AllByRecursion (HasValues values) (drop (length adopted) (clauses_of entries))
 
--- so it is where the parts are those of the book with further axioms
+-- this holds if the parts are those of the book with further axioms
 pub draft_here : (steps : CodedSteps) (code : CodedLog) (counter : CounterState) (vars values : ℕ) (book : List BookEntry) (all : List Clause) → AreParts steps code counter vars (axioms_of book ++ all) → vars ≤ values →
     HasDraft steps code counter vars (length all) (clauses_of book) values (book ++ map axiomatic all)
 draft_here steps code counter vars values book all parts enough =

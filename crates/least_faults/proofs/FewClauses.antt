@@ -10,7 +10,7 @@ use Rattle.std.specs.List.{range_with_len}
 use Rattle.des_base.specs.Lists.{numbers_below}
 use Rattle.prop_core.specs.declared.lit.Lit.{Lit}
 
--- there are at most so many clauses, with so many literals together
+-- there are at most `count` clauses, with at most `lits` literals together
 pub record AreFew (count lits : ℕ) (clauses : List Clause) : Type 0 where
   pub few : length clauses ≤ count
   pub short : sum_by length clauses ≤ lits
@@ -21,7 +21,7 @@ few_append a b c d xs ys first second = record {
   short = omega (arith, sum_by-append (λ (clause : Clause). length clause) xs ys, first.short, second.short);
 }
 
--- a clause under a premise has one literal more at most
+-- a clause under a premise has at most one more literal
 few_under : (reached : Reached) (clause : Clause) → AreFew 1 (length clause + 1) (under reached clause)
 few_under always clause = record { few = omega arith; short = omega arith }
 few_under never clause = record { few = omega arith; short = omega arith }

@@ -1,4 +1,4 @@
--- What a question puts into a book: no marks, so many learnt entries, and at most one final one.
+-- What a question puts into a book: no marks, a number of learnt entries, and at most one final one.
 use Rattle.std.proofs.Common.{◌≡◌, ◌∙◌, ℕ, Bool, true, false, ◌||◌, ◌⊎◌, inl, inr, List, [], ◌∷◌, ◌++◌, map, refl, sym, ap, subst, Contains, count_by, append-nil, append_assoc, Option, arith}
 use Rattle.std.proofs.lemmas.List.Elements.{filter_map-append, Contains-append_cases as append_cases}
 use Rattle.std.proofs.lemmas.List.Folds.{list_any-append}

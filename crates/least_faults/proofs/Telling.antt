@@ -1,4 +1,4 @@
--- A final clause tells which bound it refutes: where something explains the log, it negates the literal of that bound.
+-- A final clause shows which bound it refutes: where something explains the log, it negates the literal of that bound.
 use Rattle.std.proofs.Common.{◌≡◌, ◌∙◌, ℕ, zero, suc, ◌-◌, ◌<◌, true, false, ◌⊎◌, inl, inr, List, [], ◌∷◌, length, None, Some, option_map, map, refl, sym, ap, subst, arith, Contains, append-nil}
 use Rattle.std.specs.List.{AllByRecursion}
 use Rattle.card_counter.specs.CounterState.{CounterState, bound_literal}

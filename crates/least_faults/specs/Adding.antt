@@ -39,7 +39,7 @@ new_inputs doubtful vars = if doubtful then last_literal vars ∷ [] else []
 
 -- ---- room for it
 
--- There is room for a draft and for so many cells of the counter, each with at most 2 clauses and 5 literals in them: in the code of the log, in the counter, in the book and in the solver, which has the variables.
+-- There is room for a draft and for `cells` cells of the counter, each with at most 2 clauses and 5 literals in them: in the code of the log, in the counter, in the book and in the solver, which has the variables.
 pub record HasRoomForDraft {R : Type 0} (draft : DraftState) (doubtful : Bool) (cells : ℕ) (parts : Parts R) (book : LedgerState) : Type 0 where
   pub coded : HasRoomFor parts.code draft.addition
   pub counted : input_count doubtful ≤ parts.counter.spare_inputs
@@ -48,7 +48,7 @@ pub record HasRoomForDraft {R : Type 0} (draft : DraftState) (doubtful : Bool) (
   pub attached : 2 * cells + length draft.clauses ≤ parts.solver.spare
   pub values : parts.vars + draft.vars + cells ≤ parts.solver.vars
 
--- so many cells has the counter's new input, one in each column
+-- how many cells the counter's new input has, one in each column
 abbrev pub cell_count : {R : Type 0} → Bool → Parts R → ℕ
 cell_count doubtful parts = input_count doubtful * length parts.counter.columns
 

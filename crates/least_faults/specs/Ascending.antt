@@ -36,7 +36,7 @@ pub record HasComeToBy (code : CodedLog) (counter : CounterState) (first : Built
   pub below : (j : ℕ) → k ≡ suc j → IsRefutedAt code counter net log n j first searching.since
   pub needs : NeedsFaults net log n k
 
--- the same of the parts of a question
+-- the same for the parts of a question
 abbrev pub HasComeTo : {R : Type 0} → Parts R → BuiltQuestion → Net → Log → ℕ → List BookEntry → List BookEntry → ℕ → ℕ → Type 0
 HasComeTo parts first net log k old new budget_old budget_new = HasComeToBy parts.code.coded parts.counter first net log parts.step.steps k old new budget_old budget_new
 

@@ -83,7 +83,7 @@ pub record IsSearching (old new : List BookEntry) (budget_old budget_new : ℕ) 
   pub paid : count_by is_learnt since + budget_new ≡ budget_old
   pub fresh : HaveLearntFresh old since
 
--- no final entry was put: so it is where a question has no answer yet
+-- no final entry was put, as long as a question has no answer yet
 pub record PutsNoFinal (old new : List BookEntry) : Type 0 where
   pub since : List BookEntry
   pub whole : new ≡ old ++ since
@@ -150,6 +150,6 @@ pub record HasAskedBy (code : CodedLog) (counter : CounterState) (first : BuiltQ
   pub put : ArePut code counter bound searching.since asked
   pub means : IsTrueAnswer code counter net log n bound first searching.since new budget_new asked
 
--- the same of the parts of a question
+-- the same for the parts of a question
 abbrev pub HasAsked : {R : Type 0} → Parts R → BuiltQuestion → Net → Log → Option ℕ → List BookEntry → List BookEntry → ℕ → ℕ → Asked → Type 0
 HasAsked parts first net log bound old new budget_old budget_new asked = HasAskedBy parts.code.coded parts.counter first net log parts.step.steps bound old new budget_old budget_new asked

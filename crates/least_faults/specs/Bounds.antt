@@ -11,11 +11,11 @@ use Rattle.prop_core.specs.Clauses.{Clause}
 use Rattle.replay.specs.QuestionSize.{alarm_sizes, doubtful_count}
 use Rattle.step_encode.specs.Coded.{CodedSteps, variable_count}
 
--- so many variables take the steps, the log, and a counter with all its columns
+-- how many variables the steps, the log, and a counter with all its columns take
 abbrev pub question_variables : Net → Log → ℕ → ℕ
 question_variables net log n = variable_count net n + log_variables net log n + (counter_size net n + MOST_COLUMNS * doubtful_count log)
 
--- so many clauses have the steps and the log at most
+-- how many clauses the steps and the log have at most
 abbrev pub coded_clauses : Net → Log → ℕ → ℕ
 coded_clauses net log n = 12 * (n * (component_sizes net + alarm_sizes net log + length log.pairs) + (component_sizes net + length log.alarms + length log.pairs))
 

@@ -34,7 +34,7 @@ pub record NegatesAssumed (meanings : List (ℕ × Meaning)) (net : Net) (log : 
   pub assumes : ReadsAs meanings assumed (assumption_literals net log n bound)
   pub negates : NegatesOnly assumed clause
 
--- so it is with each final entry
+-- this holds for each final entry
 abbrev pub FinalsNegate : List (ℕ × Meaning) → List BookEntry → Net → Log → ℕ → Type 0
 FinalsNegate meanings entries net log n = (clause : Clause) (hints : List ℕ) → Contains entries (final clause hints) → NegatesAssumed meanings net log n clause
 

@@ -1,4 +1,4 @@
--- At most so many variables has the code of a log, apart from those of the steps.
+-- How many variables the code of a log has at most, apart from those of the steps.
 use Rattle.std.specs.Prelude.{ℕ, ◌+◌, length, sum_by}
 use Rattle.des_base.specs.Lists.{numbers_below}
 use Rattle.des_net.specs.Network.{Net}

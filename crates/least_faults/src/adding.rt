@@ -29,9 +29,9 @@ pub struct Reserved {
     pub clauses: Clauses,
 }
 
-/// Sees to it that there is room for a draft: in the code of the log, in the counter, in the book and in the solver.
+/// Makes sure that there is room for a draft: in the code of the log, in the counter, in the book and in the solver.
 ///
-/// A doubtful alarm is an input of the counter, so there is room for that too. Where memory is wanting the draft is dropped;
+/// A doubtful alarm is an input of the counter, so there is room for that too. If memory runs out, the draft is dropped;
 /// there may be more room than before, and nothing else has changed.
 pub fn reserve_draft<R: Fn(u32) -> u64>(
     alloc: Global,
@@ -79,8 +79,8 @@ fn copy_with_room(alloc: Global, clauses: &Clauses, cells: u32) -> Result<Clause
     Ok(copy)
 }
 
-// How many literals the clauses have together, and so many more. Where that is no number of the machine, memory would be
-// wanting for them.
+// How many literals the clauses have together, plus `more`. If that doesn't fit a machine number, there would be no
+// memory for them.
 fn literals_and(clauses: &Clauses, more: usize) -> Result<usize, Memory>
     ensures { IfOk result (λ count. count ≡ more + sum_by length clauses.now.clauses) }
 {
@@ -95,7 +95,7 @@ fn literals_and(clauses: &Clauses, more: usize) -> Result<usize, Memory>
     Ok(count)
 }
 
-// Sees to it that there is room for the draft, and for so many cells of the counter.
+// Makes sure that there is room for the draft, and for `cells` cells of the counter.
 fn reserve_room<R: Fn(u32) -> u64>(
     draft: &Draft,
     doubtful: bool,
@@ -124,7 +124,7 @@ fn reserve_room<R: Fn(u32) -> u64>(
 }
 
 /// Makes an addition for which there is room: its variables, its code, what the counter gets with it, and the clauses of both
-/// as axioms of the book, which the solver adopts. Nothing of it can fail.
+/// as axioms of the book, which the solver adopts. It can't fail.
 pub fn add_draft<R: Fn(u32) -> u64>(reserved: Reserved, parts: &mut Parts<R>, book: &mut Ledger)
     requires ready { AreReady R.pre R.post parts.old book.old.entries }
     requires reserved { IsReserved parts.old book.old reserved }
@@ -150,7 +150,7 @@ pub fn add_draft<R: Fn(u32) -> u64>(reserved: Reserved, parts: &mut Parts<R>, bo
     parts.solver.adopt(book);
 }
 
-// Lets the counter count that the last alarm of the code is false, where it is doubtful: the last variable of the code says so.
+// Lets the counter count that the last alarm of the code is false, if it is doubtful: the last variable of the code says so.
 fn count_false(
     doubtful: bool,
     code: &LogCode,

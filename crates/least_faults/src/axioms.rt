@@ -6,7 +6,7 @@ use des_base::Memory;
 use proof_ledger::Ledger;
 use prop_core::{ClauseId, Clauses};
 
-// Adds clauses to a book as axioms. After want of memory it may hold some of them.
+// Adds clauses to a book as axioms. If memory runs out, it may hold some of them.
 pub fn add_axioms(book: &mut Ledger, clauses: &Clauses) -> Result<(), Memory>
     ensures added { OnOk result (book.new.entries ≡ book.old.entries ++ map axiomatic clauses.now.clauses) }
     ensures some { (count : ℕ) × (book.new.entries ≡ book.old.entries ++ map axiomatic (take count clauses.now.clauses)) }

@@ -15,7 +15,7 @@ use std::alloc::Global;
 /// The literal for at most k faults. It adds the columns that the counter lacks.
 ///
 /// The book may have further axioms beside those of the question, over other variables that were made.
-/// Each column is put into counter, book and solver whole or not at all; those that were added before memory was wanting stay.
+/// Each column is put into counter, book and solver whole or not at all; those that were added before memory ran out stay.
 pub fn bound<R: Fn(u32) -> u64>(
     alloc: Global,
     parts: &mut Parts<R>,

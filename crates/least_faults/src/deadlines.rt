@@ -60,7 +60,7 @@ pub fn missed_deadlines(question: Question<'_>, code: &LogCode) -> Result<Vec<Li
     Ok(missed)
 }
 
-// The deadline of each alarm, where all are done within so many steps. The order keeps all pairs.
+// The deadline of each alarm, where all are done within `steps` steps. The order keeps all pairs.
 fn deadlines(
     question: Question<'_>,
     devices: &[Vec<CompId>],

@@ -3,7 +3,7 @@
 //! - [`build`] writes the clauses of a question into a book: the steps of a network, its log, and a counter of its faults. It advises the solver by the
 //!   deadlines of the log's alarms, and so does [`advise`] where the log has grown.
 //! - [`reserve_draft`] and [`add_draft`] add an alarm or a pair of alarms to a question that is built: all memory is taken first.
-//! - [`bound`] gives the literal for at most so many faults, and adds what columns the counter lacks for it.
+//! - [`bound`] gives the literal for at most k faults, and adds the columns that the counter lacks for it.
 //! - [`assumptions`] are what is assumed within a bound.
 //! - [`least`] asks without a bound, and then with the bounds 0, 1 and so on, as long as a run that is known has more faults.
 //!   Each bound that is refuted leaves a final clause of negated assumptions in the book.

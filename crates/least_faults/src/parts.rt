@@ -20,7 +20,7 @@ pub struct Parts<R> {
     pub solver: Solver<R>,
 }
 
-/// Memory was wanting, and nothing was built. The book may hold the first of the axioms.
+/// Memory ran out, and nothing was built. The book may hold the first of the axioms.
 #[derive(Drop)]
 pub struct Unbuilt<R> {
     /// The solver, without variables and clauses: a question can be built with it.

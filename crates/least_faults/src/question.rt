@@ -19,14 +19,14 @@ pub struct Question<'a> {
     pub alloc: Global,
 }
 
-// The counter has no more columns than it may have, as their reader tells.
+// The counter has no more columns than it may have, as the contract of `columns` says.
 pub fn has_few_columns(counter: &Counter)
     ensures { length counter.now.columns ≤ 256 }
 {
     let _columns = counter.columns();
 }
 
-// The guards of the log are literals, as the reader of its code tells.
+// The guards of the log are literals of its meanings, as the contract of `guards` says.
 pub fn has_guards(code: &LogCode)
     ensures { (guards : List Lit) × ReadsAs (read_meanings code.now.coded) guards (guard_literals code.now.coded.net code.now.coded.log) }
 {

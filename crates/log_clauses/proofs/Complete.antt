@@ -144,7 +144,7 @@ module _ (net : Net) (log : Log) (value : Meaning → Bool) (pieces : List (List
   all_once : EachPair (λ i j. i ≢ j) (alarms_of (flat_map (λ block. block) (before ∷ blocks)))
   all_once = subst (λ xs. EachPair (λ i j. i ≢ j) xs) (sym (joined_alarms (before ∷ blocks))) once
 
-  -- an entry tells whether its alarm is false
+  -- an entry says whether its alarm is false
   told : (entry : Entry) → Contains (flat_map (λ block. block) (before ∷ blocks)) entry → entry.real ≡ not (is_false_alarm log truth entry.alarm)
   told entry in' = by entry.real refl (doubted entry in') (is_doubtful log entry.alarm) refl
     where

@@ -215,6 +215,6 @@ false_told log value (entry ∷ order) told =
     twice true = refl
     twice false = refl
 
--- An order of all alarms that tells which are false has as many of them as the names say.
+-- An order of all alarms that says which are false has as many of them as the names say.
 pub has_false : (log : Log) (value : Meaning → Bool) (order : List Entry) → ListsOnce (length log.alarms) (alarms_of order) → AreTold log value order → HasFalse log value order
 has_false log value order lists told = false_told log value order told ∙ count_listed (is_false_alarm log value) (length log.alarms) (alarms_of order) lists

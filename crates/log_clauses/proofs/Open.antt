@@ -18,7 +18,7 @@ passed : (b : Bool) → not b || (false || (b || false)) ≡ true
 passed true = refl
 passed false = refl
 
--- no match is so
+-- no match is true
 none_matched : (value : Meaning → Bool) (i t : ℕ) (es : List ℕ) (k : ℕ) (x : Meaning) → slice_get (map (λ e. matches i e t) es) k ≡ Some x → opened value x ≡ false
 none_matched value i t [] k x at = cc
 none_matched value i t (e ∷ es) zero x at = let same : matches i e t ≡ x = cc in sym (ap (opened value) same)

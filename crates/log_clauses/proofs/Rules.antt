@@ -207,7 +207,7 @@ module _ (net : Net) (log : Log) (n : ℕ) (value : Meaning → Bool) (held : Lo
       last true true c d h k l m = cc
       last false b c d h k l m = cc
 
-  -- What is done got so in a step, or from the start.
+  -- What is done got done in a step, or is so from the start.
   pub comes_before : (m i : ℕ) → value (done i m) ≡ true → (t : ℕ) × (t ≤ m) × (comes value i t ≡ true)
   comes_before zero i is = (0, omega arith, is)
   comes_before (suc m) i is = by (value (done i m)) refl (comes_before m i)

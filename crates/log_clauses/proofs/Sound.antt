@@ -291,7 +291,7 @@ weaken : {X : Type 0} (R S : X → X → Type 0) (xs : List X) → ((a b : X) �
 weaken R S [] h each = tt
 weaken R S (x ∷ xs) h each = (all_from (S x) xs (λ y in'. h x y (all_at (R x) xs each.0 y in')), weaken R S xs h each.1)
 
--- A false alarm is doubtful, and each entry tells what the names say.
+-- A false alarm is doubtful, and each entry says what the names say.
 arranged_doubted : (log : Log) (value : Meaning → Bool) (alarms : List ℕ) (t : ℕ) (pieces : List (List ℕ)) → AllByRecursion (λ entry. may_stand log entry ≡ true) (arranged_order log value alarms t pieces)
 arranged_doubted log value alarms t [] = tt
 arranged_doubted log value alarms t (piece ∷ pieces) =

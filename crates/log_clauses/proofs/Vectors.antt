@@ -222,7 +222,7 @@ doubtful_first = refl
 pub names_of_z : added_meanings apart no_log 1 (alarm_added z) ≡ done 0 0 ∷ done 0 1 ∷ dropped 0 ∷ []
 names_of_z = refl
 
--- a doubtful trip in two steps: one clause more for each match
+-- a doubtful trip in two steps: one more clause for each match
 pub clauses_of_doubtful : length (added_clauses pump no_log 2 (alarm_added (maybe (codes "a1") (codes "T" ∷ [])))) ≡ 22
 clauses_of_doubtful = refl
 
@@ -236,7 +236,7 @@ pub names_of_x : added_meanings apart no_log 2 (alarm_added x)
     ≡ closed 0 1 ∷ matches 0 0 1 ∷ unmatched 0 1 1 ∷ matches 0 0 2 ∷ unmatched 0 1 2 ∷ done 0 0 ∷ done 0 1 ∷ done 0 2 ∷ []
 names_of_x = refl
 
--- an alarm that two events may be, over two steps: two links, and one clause more in each step
+-- an alarm that two events may be, over two steps: two links, and one more clause in each step
 pub clauses_of_two : length (added_clauses pump no_log 2 (alarm_added (alarm (codes "a1") (codes "T" ∷ codes "B" ∷ [])))) ≡ 36
 clauses_of_two = refl
 

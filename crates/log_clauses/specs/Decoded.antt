@@ -37,7 +37,7 @@ arranged net log value alarms t (piece ∷ pieces) =
 abbrev pub is_false_alarm : Log → (Meaning → Bool) → ℕ → Bool
 is_false_alarm log value i = is_doubtful log i && value (dropped i)
 
--- alarm i gets done in step t, or, where that is 0, is so from the start
+-- alarm i gets done in step t, or, where that is 0, is done from the start
 abbrev pub comes : (Meaning → Bool) → ℕ → ℕ → Bool
 comes value i zero = value (done i zero)
 comes value i (suc t) = value (done i (suc t)) && not (value (done i t))
@@ -46,7 +46,7 @@ comes value i (suc t) = value (done i (suc t)) && not (value (done i t))
 abbrev pub decoded_entry : Log → (Meaning → Bool) → ℕ → Entry
 decoded_entry log value i = record { alarm = i; real = not (is_false_alarm log value i) }
 
--- the entries of the alarms that get done in step t, or, where that is 0, are so from the start, in their given order
+-- the entries of the alarms that get done in step t, or, where that is 0, are done from the start, in their given order
 abbrev pub entries_at : Log → (Meaning → Bool) → List ℕ → ℕ → List Entry
 entries_at log value alarms t = map (decoded_entry log value) (filter (λ i. comes value i t) alarms)
 

@@ -16,7 +16,7 @@ chain net log e = filter (is_matching net log e) (numbers_below (length log.alar
 abbrev pub matching_events : Net → Log → ℕ → List ℕ
 matching_events net log i = filter (λ e. is_matching net log e i) (numbers_below (length net.events))
 
--- of what at most one is so: that alarm i stands for one of these events in step t, counted from 1
+-- the inputs of an "at most one": that alarm i stands for one of these events in step t, counted from 1
 abbrev pub match_inputs : Net → Log → ℕ → ℕ → List Meaning
 match_inputs net log i t = map (λ e. matches i e t) (matching_events net log i)
 

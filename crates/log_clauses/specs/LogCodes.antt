@@ -34,7 +34,7 @@ pub record CodesStayBy (meanings more : List (ℕ × Meaning)) (clauses : List C
   pub steps : (net : Net) (n : ℕ) → IsCode meanings (IsNamedStep net n) clauses → IsCode more (IsNamedStep net n) clauses
   pub log : (net : Net) (log : Log) (n : ℕ) → IsCode meanings (IsNamedLog net log n) clauses → IsCode more (IsNamedLog net log n) clauses
 
--- So it is of all clauses, by more meanings that have each variable and each meaning once.
+-- This holds for all clauses, by more meanings that have each variable and each meaning once.
 abbrev pub CodesStay : Type 0
 CodesStay = (meanings more : List (ℕ × Meaning)) (clauses : List Clause) → HasEachOnce more → AreAmong meanings more → CodesStayBy meanings more clauses
 

@@ -39,7 +39,7 @@ LogIsComplete = (net : Net) (log : Log) (n : ℕ) (given : Meaning → Bool) (pi
     AreSteps net n given pieces → Linearises net log (joined pieces) order →
     (value : Meaning → Bool) × DifferInLog given value × LogClausesHold net log n value × GuardsHold net log value × HasFalse log value order
 
--- alarm i gets done in one step, or is so from the start
+-- alarm i gets done in one step, or is done from the start
 pub record HasOneStep (n : ℕ) (value : Meaning → Bool) (i : ℕ) : Type 0 where
   pub step : ℕ
   pub within : step ≤ n
@@ -79,7 +79,7 @@ pub record AreMatched (net : Net) (log : Log) (n : ℕ) (value : Meaning → Boo
   pub found : (e t i : ℕ) → t < n → alarm_at net log value e (suc t) ≡ Some i → IsMatchedTo net log value e t i
   pub kept : (i j s t : ℕ) → i < length log.alarms → Contains log.pairs (i, j) → s ≤ n → t ≤ n → comes value i s ≡ true → comes value j t ≡ true → s ≤ t
 
--- So they do where clauses and guards are true.
+-- This holds where clauses and guards are true.
 abbrev pub MatchesAreExact : Type 0
 MatchesAreExact = (net : Net) (log : Log) (n : ℕ) (value : Meaning → Bool) → LogClausesHold net log n value → GuardsHold net log value → AreMatched net log n value
 

@@ -70,7 +70,7 @@ pub record BringsNewMeanings (net : Net) (log : Log) (n : ℕ) (addition : Addit
   pub fresh : (meaning : Meaning) → Contains (added_meanings net log n addition) meaning → IsLogMeaning net log n meaning → ⊥
   pub all : (meaning : Meaning) → IsLogMeaning net (with_addition log addition) n meaning ↔ IsLogMeaning net log n meaning ⊎ Contains (added_meanings net log n addition) meaning
 
--- So it is of each addition to each log.
+-- This holds for each addition to each log.
 abbrev pub MeaningsAreNew : Type 0
 MeaningsAreNew = (net : Net) (log : Log) (n : ℕ) (addition : Addition) → BringsNewMeanings net log n addition
 
@@ -85,7 +85,7 @@ pub record AreFirst (net : Net) (n : ℕ) : Type 0 where
   pub all : (meaning : Meaning) → IsLogMeaning net no_log n meaning ↔ Contains (first_meanings net) meaning
   pub few : length (first_meanings net) ≡ 1 + observable_count net
 
--- So it is in each network, for each number of steps.
+-- This holds in each network, for each number of steps.
 abbrev pub FirstMeaningsAreAll : Type 0
 FirstMeaningsAreAll = (net : Net) (n : ℕ) → AreFirst net n
 

@@ -1,13 +1,13 @@
 //! The clauses of an alarm log in n parallel steps of a network, beside those of its runs: each alarm stands for one event
 //! that can be seen, each such event has one alarm, and the first alarm of a pair is done no later than the second. An alarm that
-//! is doubtful may be false instead: then it stands for no event, and is done in whatever step.
+//! is doubtful may be false instead: then it stands for no event, and may be done in any step.
 //!
 //! Each event has a *chain* of the alarms that may stand for it. In each step it is passed along its chain until one of
 //! them takes it. A log grows at the end of its chains, so that no clause is ever taken back; what ends a chain is a
 //! *guard*, a literal that is assumed for the present log alone.
 //!
 //! It has definitions and laws alone, for the crates that write the clauses and those that read them: with the guards an
-//! assignment of the events extends to the clauses just where the sets of the steps, each written in some order, linearise
+//! assignment of the events extends to the clauses exactly if the sets of the steps, each written in some order, linearise
 //! the log; without a guard every assignment of the events does.
 #![tactic(auto)]
 
@@ -21,12 +21,12 @@ ghost use Rattle.log_clauses.specs.LogNames.{FirstMeaningsAreAll, MeaningsAreFew
 
 // ---- what the clauses of a log say, by name
 
-/// Where clauses and guards are true, the sets of the steps linearise the log.
+/// If clauses and guards are true, the sets of the steps linearise the log.
 pub fn log_is_sound()
     ensures { LogIsSound }
 {}
 
-/// Where the sets of the steps linearise the log, its meanings have a truth that makes clauses and guards true.
+/// If the sets of the steps linearise the log, its meanings have a truth that makes clauses and guards true.
 pub fn log_is_complete()
     ensures { LogIsComplete }
 {}

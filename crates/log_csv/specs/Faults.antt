@@ -8,7 +8,7 @@ use Rattle.log_csv.specs.declared.fault.LogReadRefusal.TheVariants.{Fault, Memor
 abbrev pub log_fault_at : ℕ → Option ℕ → Option LogFault
 log_fault_at row code = option_map (λ c. record { row = row; code = c }) code
 
--- A refusal names the first fault. Want of memory may come in place of any answer.
+-- A refusal names the first fault. Any call may run out of memory instead.
 abbrev pub IsLogDue : Option LogFault → LogReadRefusal → Type 0
 IsLogDue fault (Fault told) = fault ≡ Some told
 IsLogDue fault Memory = ⊤

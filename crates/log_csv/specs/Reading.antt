@@ -41,7 +41,7 @@ IsNamedInRow text (Err Shape) = ⊥
 IsNamedInRow text (Err Name) = is_name_text text ≡ false
 IsNamedInRow text (Err Memory) = ⊤
 
--- the same of some texts
+-- the same for some texts
 abbrev pub AreNamed : List (List ℕ) → Result (List (List ℕ)) RowRefusal → Type 0
 AreNamed texts (Ok names) = (names ≡ texts) × (list_all is_name_text texts ≡ true)
 AreNamed texts (Err Shape) = ⊥
@@ -87,7 +87,7 @@ pub record IsReadTo (bytes : List ℕ) (left : List (List (List ℕ))) (row : �
   pub whole : earlier ++ map record_of left ≡ records_of bytes
   pub faults : first_record_fault (row + 1) earlier (map record_of left) ≡ first_log_fault bytes
 
--- the code of a refusal of the log, or 0 for want of memory, which is no fault of the text
+-- the code of a refusal of the log, or 0 for `Memory`, which is no fault of the text
 abbrev pub refusal_code : LogRefusal → ℕ
 refusal_code refused.Double = 1
 refusal_code refused.Unknown = 2

@@ -7,10 +7,10 @@ use std::alloc::AllocFailed;
 
 /// The place and the kind of the first fault of a log or a script.
 ///
-/// `row` is the record's place among all records of the text, from 1. `code` is 1 where an alarm has the id, 2 where an
-/// alarm of a pair isn't known, 3 where a pair closes a cycle, 4 where the label field is empty, 5 where a limit would be
-/// passed, 6 where the record has no shape or is a question in a log, and 7 where an id or a label isn't a name. Where several
-/// hold of one record, 6 is told first, then 7, and then the smallest.
+/// `row` is the record's place among all records of the text, from 1. `code` is 1 where an alarm has the id, 2 where an alarm
+/// of a pair isn't known, 3 where a pair closes a cycle, 4 where the label field is empty, 5 where a limit would be passed, 6
+/// where the record has no shape or is a question in a log, and 7 where an id or a label isn't a name. If several hold of one
+/// record, 6 comes first, then 7, and then the smallest.
 #[derive(Clone, Copy, PartialEq, Eq)]
 pub struct LogFault {
     pub row: u32,
@@ -22,7 +22,7 @@ pub struct LogFault {
 pub enum LogReadRefusal {
     /// The text has a fault.
     Fault(LogFault),
-    /// Want of memory.
+    /// Memory ran out.
     Memory,
 }
 

@@ -18,7 +18,7 @@ pub fn are_empty_from(fields: &ByteRecord, from: usize) -> bool
     true
 }
 
-// Whether the field at a place is empty, where there is one.
+// Whether the field at a place is empty, if there is one.
 fn is_empty_at(fields: &ByteRecord, place: usize) -> bool
     ensures { are_empty (drop place (fields_of fields.now)) ≡ (result && are_empty (drop (place + 1) (fields_of fields.now))) }
 {

@@ -38,7 +38,7 @@ fn first_piece(field: &[u8]) -> Option<&[u8]>
     if field.is_empty() { None } else { Some(field) }
 }
 
-// The label in front, and what follows its bar, where it has one.
+// The label in front, and what follows its bar, if it has one.
 fn cut_label(text: &[u8]) -> (&[u8], Option<&[u8]>)
     ensures pieces { slice_split (λ byte. byte == 124) text.now ≡ result.0.now ∷ pieces_in result.1 }
     ensures shorter { option_map_or (λ rest. length rest.now + 1) result.1 0 ≤ length text.now }
@@ -50,7 +50,7 @@ fn cut_label(text: &[u8]) -> (&[u8], Option<&[u8]>)
     }
 }
 
-// How many bytes stand before the first bar, or all where there is none.
+// How many bytes stand before the first bar, or all if there is none.
 fn bar_place(text: &[u8]) -> usize
     ensures place { result ≡ position_or_len (λ byte. byte == 124) text.now }
     ensures within { result ≤ length text.now }

@@ -21,7 +21,7 @@ pub fn records_of(alloc: Global, bytes: &[u8]) -> Reader<&[u8]>
         .from_reader(alloc, bytes)
 }
 
-// Reads the fields of the next record, where there is one.
+// Reads the fields of the next record, if there is one.
 pub fn next_record(reader: &mut Reader<&[u8]>, fields: &mut ByteRecord) -> Result<bool, Memory>
     requires { IsPlain reader.old }
     ensures plain { OnOk result (IsPlain reader.new) }

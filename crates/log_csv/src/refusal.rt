@@ -13,7 +13,7 @@ pub enum RowRefusal {
     Shape,
     // An id or a label isn't a name.
     Name,
-    // Want of memory.
+    // Memory ran out.
     Memory,
 }
 

@@ -61,7 +61,7 @@ pub fn read_script(alloc: Global, bytes: &[u8]) -> Result<Script, LogReadRefusal
     Ok(Script { rows })
 }
 
-// Appends the row that a record says, where it says one.
+// Appends the row that a record says, if it says one.
 #[tactic(auto, using(crate::proofs::ScriptLemmas::pushed_rows))]
 fn push_row(
     alloc: Global,

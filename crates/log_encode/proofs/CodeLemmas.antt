@@ -25,7 +25,7 @@ use Rattle.run_clauses.specs.LaidOut.{laid_out}
 abbrev of_alarms : List Alarm → Log
 of_alarms alarms = a_log alarms []
 
--- one alarm more
+-- one more alarm
 names_snoc : (net : Net) (n : ℕ) (before alarms : List Alarm) (starts : List ℕ) (new : Alarm) (first : ℕ) → length starts ≡ length alarms →
     meanings_from net n (of_alarms before) (alarms ++ new ∷ []) (starts ++ first ∷ [])
     ≡ meanings_from net n (of_alarms before) alarms starts ++ laid_out first (added_meanings net (of_alarms (before ++ alarms)) n (alarm_added new))

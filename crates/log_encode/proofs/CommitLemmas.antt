@@ -47,7 +47,7 @@ alarm_committed net grid asked old first width vars chain_ends after guards then
     let count : length code.log.alarms ≡ length alarms = map_count (λ (x : AlarmState). nameless x.labels x.doubtful) alarms in
     rw (l, total) (subst (λ (k : CodedLog). AreKept k after then later (alarms ++ alarm ∷ [])) (sym same) (kept_with_alarm code first chain_ends after guards then dropped later alarms alarm count grown is.above kept chains false_ones last), same)
 
--- what a draft that is committed tells of the code, where it adds an alarm
+-- what a draft that is committed says of the code, if it adds an alarm
 pub record TellsAlarm (code : CodedLog) (first width : ℕ) (alarm : AlarmState) (after : List ChainEnd) (then later : List Lit) : Type 0 where
   pub begins : alarm.start ≡ first
   pub last : IsCodedAlarm (code_after code (alarm_added (nameless alarm.labels alarm.doubtful)) first) (length code.log.alarms) alarm

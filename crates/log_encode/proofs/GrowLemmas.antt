@@ -51,7 +51,7 @@ taken_others net labels e (end ∷ ends) others = by (has_any_label net labels e
     by true is later = rw is (others.0, later)
     by false is later = rw is later
 
--- the loop does just that, since no event stands twice
+-- the loop does exactly that, since no event stands twice
 after_is : (net : Net) (labels : List (List ℕ)) (vars : AlarmVars) (link : ℕ) (ends : List ChainEnd) → EachPair (λ e f. e ≢ f) (map (λ (end : ChainEnd). end.event) ends) →
     ends_after vars link ends (taken_from net labels ends) ≡ lengthened net labels vars link ends
 after_is net labels vars link [] once = refl

@@ -1,4 +1,4 @@
--- What loops write, one turn more.
+-- What loops write, one more turn.
 use Rattle.std.proofs.Common.{◌≡◌, ℕ, ◌+◌, ◌∙◌, ◌++◌, ◌∷◌, [], List, ap, sym, map, append_assoc}
 use Rattle.std.specs.Prelude.{flat_map}
 use Rattle.des_base.proofs.NumbersBelow.{map_numbers_more, flat_numbers_more}

@@ -104,7 +104,7 @@ get_snoc P [] new each last (suc i) x at = cc
 get_snoc P (y ∷ xs) new each last zero x at = each 0 x at
 get_snoc P (y ∷ xs) new each last (suc i) x at = get_snoc (λ k. P (suc k)) xs new (λ k z h. each (suc k) z h) last i x at
 
--- the code with an alarm more is the code after its addition
+-- the code with a further alarm is the code after its addition
 pub coded_with_alarm : (net : Net) (grid : Grid) (asked vars first : ℕ) (alarms : List AlarmState) (pairs : List (ℕ × ℕ)) (alarm : AlarmState) → alarm.start ≡ first →
     coded_of net grid asked (first + addition_width (coded_of net grid asked vars alarms pairs) (alarm_added (nameless alarm.labels alarm.doubtful))) (alarms ++ alarm ∷ []) pairs
     ≡ code_after (coded_of net grid asked vars alarms pairs) (alarm_added (nameless alarm.labels alarm.doubtful)) first

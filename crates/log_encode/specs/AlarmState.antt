@@ -13,7 +13,7 @@ pub record AlarmState : Type 0 where
   pub takes : List Taken
   pub start : ℕ
 
--- where its variables stand, for so many steps
+-- where its variables stand, for `steps` steps
 abbrev pub variables_of : ℕ → AlarmState → AlarmVars
 variables_of steps alarm = record { start = alarm.start; links = length alarm.takes; steps = steps; doubtful = alarm.doubtful }
 

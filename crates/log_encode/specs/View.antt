@@ -24,7 +24,7 @@ use Rattle.prop_core.specs.VariableNames.{meaning_of, matches, done, dropped, cl
 
 -- ---- the code
 
--- the code with these parts, where each alarm tells its labels, whether it is doubtful, and its first variable
+-- the code with these parts, where each alarm has its labels, whether it is doubtful, and its first variable
 abbrev pub coded_of : Net → Grid → ℕ → ℕ → List AlarmState → List (ℕ × ℕ) → CodedLog
 coded_of net grid asked vars alarms pairs = record {
   net = net;
@@ -81,7 +81,7 @@ pub record AreKept (code : CodedLog) (ends : List ChainEnd) (guards dropped : Li
   pub false_ones : AreFalse code dropped
   pub alarms : (i : ℕ) (alarm : AlarmState) → slice_get states i ≡ Some alarm → IsCodedAlarm code i alarm
 
--- what the fields keep: all that stands beside the code fits it, and the room that they tell is there
+-- what the fields keep: all that stands beside the code fits it, and there is the room that they count
 pub record KeepsLogCode (a : Inside) : Type 0 where
   pub kept : AreKept (coded a) a.ends.items a.guards.items a.dropped.items a.alarms.items
   pub room_for_alarms : vec_len a.alarms + a.spare_alarms ≤ vec_capacity a.alarms

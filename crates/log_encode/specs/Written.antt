@@ -56,7 +56,7 @@ pub record HasRest (grid : Grid) (taken : Taken) : Type 0 where
 
 -- ---- a link in one step
 
--- A link takes or passes on just what comes to it, never both, and passes nothing on where the chain ends after it; its alarm is done once it takes, and not before.
+-- A link takes or passes on exactly what comes to it, never both, and passes nothing on where the chain ends after it; its alarm is done once it takes, and not before.
 abbrev pub link_written : LinkVars → List Clause
 link_written v = (negative v.closed ∷ negative v.passed ∷ []) ∷ (negative v.matched ∷ positive v.rest ∷ []) ∷ (negative v.matched ∷ negative v.passed ∷ [])
     ∷ (negative v.passed ∷ positive v.rest ∷ []) ∷ (negative v.rest ∷ positive v.matched ∷ positive v.passed ∷ []) ∷ (negative v.matched ∷ positive v.after ∷ []) ∷ (negative v.matched ∷ negative v.before ∷ []) ∷ []
@@ -104,15 +104,15 @@ ends_written asked vars = (negative (done_variable vars 0) ∷ dropped_written v
 abbrev pub done_written : ℕ → AlarmVars → List Clause
 done_written asked vars = ends_written asked vars ++ flat_map (step_written vars) (numbers_below vars.steps)
 
--- a false alarm isn't matched to the event of a link in any of so many steps
+-- a false alarm isn't matched to the event of a link in any of the first n steps
 abbrev pub real_of_link : AlarmVars → ℕ → ℕ → List Clause
 real_of_link vars link n = map (λ t. negative (match_variable vars link t) ∷ negative (dropped_variable vars) ∷ []) (numbers_below n)
 
--- the same of the first so many links, in all steps
+-- the same for the first `links` links, in all steps
 abbrev pub reals_written : AlarmVars → ℕ → List Clause
 reals_written vars links = flat_map (λ link. real_of_link vars link vars.steps) (numbers_below links)
 
--- the same of all links of a doubtful alarm; of a certain one nothing
+-- the same for all links of a doubtful alarm; of a certain one nothing
 abbrev pub real_written : AlarmVars → List Clause
 real_written vars = if vars.doubtful then reals_written vars vars.links else []
 
@@ -147,6 +147,6 @@ closed_written_below grid end n = map (λ t. negative end.closed ∷ negative (g
 abbrev pub closed_written : Grid → ChainEnd → List Clause
 closed_written grid end = closed_written_below grid end grid.steps
 
--- the same of each of these chains
+-- the same for each of these chains
 abbrev pub all_closed_written : Grid → List ChainEnd → List Clause
 all_closed_written grid ends = flat_map (closed_written grid) ends

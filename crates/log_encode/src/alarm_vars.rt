@@ -25,7 +25,7 @@ fn false_width(doubtful: bool) -> u32
 }
 
 impl AlarmVars {
-    // Those of an alarm that may stand for so many events.
+    // Those of an alarm that may stand for `links` events.
     pub fn new(start: u32, links: usize, steps: u32, doubtful: bool) -> AlarmVars
         requires { AreWithinLimit (record { start = start; links = links; steps = steps; doubtful = doubtful }) }
         ensures value { result ≡ record { start = start; links = links; steps = steps; doubtful = doubtful } }
@@ -60,7 +60,7 @@ impl AlarmVars {
         self.start + link * (1 + self.steps * 2)
     }
 
-    // Matches the alarm to the event of a link in the step after so many.
+    // Matches the alarm to the event of a link in the step after `step` steps.
     #[tactic(auto, using(crate::proofs::VariableLemmas::link_is_small))]
     pub fn matched(self, link: u32, step: u32) -> u32
         requires within { AreWithinLimit self }
@@ -71,7 +71,7 @@ impl AlarmVars {
         self.start + (link * (1 + self.steps * 2) + (1 + step * 2))
     }
 
-    // Passes the event of a link on in the step after so many.
+    // Passes the event of a link on in the step after `step` steps.
     #[tactic(auto, using(crate::proofs::VariableLemmas::link_is_small))]
     pub fn passed(self, link: u32, step: u32) -> u32
         requires within { AreWithinLimit self }
@@ -92,7 +92,7 @@ impl AlarmVars {
         self.start + (link * (1 + self.steps * 2) + 2)
     }
 
-    // Says that the alarm is done within so many steps: matched, or false.
+    // Says that the alarm is done within `steps` steps: matched, or false.
     #[tactic(auto, using(crate::proofs::VariableLemmas::count_is_small))]
     pub fn done(self, steps: u32) -> u32
         requires within { AreWithinLimit self }
@@ -102,7 +102,7 @@ impl AlarmVars {
         self.start + (self.links * (1 + self.steps * 2) + steps)
     }
 
-    // The first of those by which the alarm is matched at most once in the step after so many.
+    // The first of those by which the alarm is matched at most once in the step after `step` steps.
     pub fn chain(self, step: u32) -> u32
         requires within { AreWithinLimit self }
         requires step { step < self.steps }

@@ -100,7 +100,7 @@ impl LogCode {
         })
     }
 
-    /// Drafts an alarm with these labels, in the network that the code was made for: a doubtful one where it is `maybe` false.
+    /// Drafts an alarm with these labels, in the network that the code was made for: with `maybe`, a doubtful one.
     ///
     /// Its variables begin at `first_var`: make them by one `fresh` before the draft is committed.
     pub fn draft_alarm(
@@ -151,7 +151,7 @@ impl LogCode {
         })
     }
 
-    /// Sees to it that there is room for a draft.
+    /// Makes sure that there is room for a draft.
     pub fn reserve(&mut self, draft: &Draft) -> Result<(), Memory>
         ensures code { self.new.coded ≡ self.old.coded }
         ensures room { OnOk result (HasRoomFor self.new draft.now.addition) }
@@ -253,8 +253,8 @@ impl LogCode {
         self.is_dropped(&self.alarms[alarm as usize], assign)
     }
 
-    /// The least number of steps within which the alarm is done. It is done in the end: so it is where the clauses and the guards
-    /// are true.
+    /// The least number of steps within which the alarm is done. It must be done in the end, as it is if the clauses and the
+    /// guards are true.
     pub fn step_of_alarm(&self, assign: &Assignment, alarm: u32) -> u32
         requires alarm { alarm < length self.now.coded.log.alarms }
         requires values { self.now.coded.vars ≤ length assign.now }
@@ -271,7 +271,7 @@ impl LogCode {
         self.grid.steps
     }
 
-    /// That the alarm isn't done within so many steps.
+    /// That the alarm isn't done within `steps` steps.
     pub fn undone(&self, alarm: u32, steps: u32) -> Lit
         requires alarm { alarm < length self.now.coded.log.alarms }
         requires steps { steps ≤ self.now.coded.grid.steps }
@@ -281,7 +281,7 @@ impl LogCode {
         Lit::new(self.done(alarm) + steps, false)
     }
 
-    /// That an alarm doesn't pass an event on in the step after so many: the event of the link of this number, if there are such a link and step.
+    /// That an alarm doesn't pass an event on in the step after `step` steps: the event of the link of this number, if there are such a link and step.
     pub fn unpassed(&self, alarm: u32, link: u32, step: u32) -> Option<Lit>
         requires { alarm < length self.now.coded.log.alarms }
     {
@@ -304,7 +304,7 @@ impl LogCode {
         alarm.doubtful && assign.value(self.vars_of(alarm).dropped())
     }
 
-    // Whether the alarm stands for the event in the step after so many.
+    // Whether the alarm stands for the event in the step after `step` steps.
     fn is_matched(&self, alarm: &AlarmCode, assign: &Assignment, event: EventId, step: u32) -> bool
         requires step { step < self.now.coded.grid.steps }
         requires within { AreWithinLimit (variables_of self.now.coded.grid.steps alarm.now) }

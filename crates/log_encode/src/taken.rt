@@ -27,7 +27,7 @@ pub struct Taken {
 }
 
 impl Taken {
-    // The variable that says that the event comes to the end of its chain in the step after so many.
+    // The variable that says that the event comes to the end of its chain in the step after `step` steps.
     pub fn rest(&self, grid: Grid, step: u32) -> u32
         requires event { self.now.event < grid.events }
         requires step { step < grid.steps }

@@ -131,7 +131,7 @@ fn matches_at(alloc: Global, vars: AlarmVars, step: u32) -> Result<Vec<Lit>, Mem
     Ok(lits)
 }
 
-// That the alarm is false, where it is doubtful.
+// That the alarm is false, if it is doubtful.
 fn push_dropped(vars: AlarmVars, lits: &mut Vec<Lit>) -> Result<(), Memory>
     requires { AreWithinLimit vars }
     ensures { OnOk result (lits.new.items ≡ lits.old.items ++ dropped_written vars) }
@@ -153,7 +153,7 @@ fn exclude(matches: &[Lit], first: u32, out: &mut Clauses) -> Result<(), Memory>
 }
 
 // Whether the alarm is done after a step: where it was before, or one of its events is its match there, and one at most. A
-// doubtful one is so where it is false.
+// doubtful one is also done if it is false.
 fn write_step(alloc: Global, vars: AlarmVars, step: u32, out: &mut Clauses) -> Result<(), Memory>
     requires within { AreWithinLimit vars }
     requires step { step < vars.steps }
@@ -184,8 +184,8 @@ fn write_first(alloc: Global, vars: AlarmVars, out: &mut Clauses) -> Result<(), 
     Ok(())
 }
 
-// Whether the alarm is done, within all numbers of steps: at first it isn't, unless it is false, and at last it is where the log
-// is asked for.
+// Whether the alarm is done, within all numbers of steps: at first it isn't, unless it is false, and at last it is if the log is
+// asked for.
 fn write_done(alloc: Global, asked: u32, vars: AlarmVars, out: &mut Clauses) -> Result<(), Memory>
     requires { AreWithinLimit vars }
     ensures { OnOk result (out.new.clauses ≡ out.old.clauses ++ done_written asked vars) }
@@ -268,7 +268,7 @@ pub fn dropped_after(alloc: Global, dropped: &[Lit], vars: AlarmVars) -> Result<
     Ok(after)
 }
 
-// That the first alarm is done no later than the second where the log is asked for. Each begins with its own variable for 0
+// That the first alarm is done no later than the second if the log is asked for. Each begins with its own variable for 0
 // steps.
 #[tactic(auto, using(crate::proofs::LoopLemmas::map_more_on))]
 pub fn write_pair(

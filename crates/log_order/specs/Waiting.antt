@@ -6,6 +6,6 @@ use Rattle.std.specs.List.{list_any, list_all}
 abbrev pub waits : List (List ℕ) → (ℕ → Bool) → ℕ → Bool
 waits lists taken i = taken i || not (list_all taken (slice_index_or lists i []))
 
--- the lists have, for each number, those that a pair puts before it: all of them are taken exactly where each such pair's first number is
+-- the lists have, for each number, those that a pair puts before it: all of them are taken exactly if each such pair's first number is
 abbrev pub AreBefore : List (ℕ × ℕ) → List (List ℕ) → Type 0
 AreBefore pairs lists = (taken : ℕ → Bool) (i : ℕ) → not (list_all taken (slice_index_or lists i [])) ≡ list_any (λ pair. pair.1 == i && not (taken pair.0)) pairs

@@ -10,7 +10,7 @@ use des_base::{Memory, Name};
 use std::alloc::Global;
 use std::marker::Model;
 
-// What an alarm may stand for: events with its labels, and no event where it is perhaps false.
+// What an alarm may stand for: events with its labels, or no event if it is perhaps false.
 #[derive(Drop)]
 pub struct AlarmMeaning {
     pub labels: Vec<Name>,
@@ -48,7 +48,7 @@ pub fn has_label(labels: &[Name], label: &Name) -> bool
     labels.iter().any(|other| label == other)
 }
 
-// Adds a label, where it isn't there.
+// Adds a label, if it isn't there.
 #[tactic(auto, using(crate::proofs::AlarmLemmas::with_text_is))]
 fn push_new(labels: &mut Vec<Name>, label: &Name) -> Result<(), Memory>
     requires { length labels.old.items < MOST_LABELS }
@@ -62,7 +62,7 @@ fn push_new(labels: &mut Vec<Name>, label: &Name) -> Result<(), Memory>
     Ok(())
 }
 
-/// The labels, each once and at its first place: at most 64, as an alarm keeps them. Only want of memory fails.
+/// The labels, each once and at its first place: at most 64, as an alarm keeps them. It fails only if memory runs out.
 pub fn each_once(alloc: Global, labels: &[Name]) -> Result<Vec<Name>, Memory>
     requires { length labels.now ≤ MOST_LABELS }
     ensures once { IfOk result (λ once. once.items ≡ with_texts [] labels.now) }

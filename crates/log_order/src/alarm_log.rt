@@ -19,7 +19,7 @@ use std::marker::Model;
 /// A log: alarms, each with an id and labels, and certain or doubtful, and pairs of alarms, "the first before the second".
 ///
 /// It is always valid: some order of all alarms keeps every pair. Alarms are numbered from 0 as they are added. A refused
-/// call changes nothing. Where several refusals hold, the first of `Double`, `Unknown`, `Cycle`, `NoLabels` and `Limit` is
+/// call changes nothing. If several refusals hold, the first of `Double`, `Unknown`, `Cycle`, `NoLabels` and `Limit` is
 /// answered, and `Memory` may come in place of any answer of a call that takes memory.
 #[derive(Drop)]
 pub struct AlarmLog {
@@ -223,7 +223,7 @@ impl AlarmLog {
         self.precedence.test(first, second)
     }
 
-    /// Adds a pair of alarms, "the first before the second": true where it is new, and false where it was there.
+    /// Adds a pair of alarms, "the first before the second": true if it is new, and false if it was there.
     pub fn add_before(&mut self, first: u32, second: u32) -> Result<bool, LogRefusal>
         ensures refused { SucceedsUnless (before_refusal (length self.old.alarms) self.old.pairs first second) LogRefusal.Memory result }
         ensures ok { OnOk result (self.new ≡ record self.old { pairs = with_pair self.old.pairs first second }) }

@@ -19,11 +19,11 @@ pub use alarm_log::AlarmLog;
 pub use certainty::Certainty;
 pub use refusal::LogRefusal;
 
-/// A log has at most so many alarms.
+/// The most alarms that a log may have.
 pub const MOST_ALARMS: usize = 2_000;
 
-/// For one alarm at most so many labels are given.
+/// The most labels that may be given for one alarm.
 pub const MOST_LABELS: usize = 64;
 
-/// A log has at most so many pairs.
+/// The most pairs that a log may have.
 pub const MOST_PAIRS: usize = 20_000;

@@ -10,7 +10,7 @@ use crate::precedence::push_follower;
 use des_base::{ListOf, Memory};
 use std::alloc::Global;
 
-// No numbers before each of so many.
+// For each of `count` numbers, none before it.
 fn none_before(alloc: Global, count: u32) -> Result<Vec<ListOf<u32>>, Memory>
     ensures long { IfOk result (λ lists. length lists.items ≡ count) }
     ensures none { IfOk result (λ lists. AreBefore [] lists.items) }

@@ -99,7 +99,7 @@ impl Precedence {
         Ok(marks)
     }
 
-    // What the second number reaches, where the pair is accepted.
+    // What the second number reaches, if the pair is accepted.
     #[tactic(auto, unfolding(crate::specs::Adding::before_refusal))]
     fn admit(&self, first: u32, second: u32) -> Result<Vec<bool>, LogRefusal>
         ensures refused { SucceedsUnless (before_refusal self.now.count self.now.pairs first second) LogRefusal.Memory result }
@@ -182,7 +182,7 @@ impl Precedence {
         Ok(())
     }
 
-    // Adds a pair, where it isn't there.
+    // Adds a pair, if it isn't there.
     pub fn add(&mut self, first: u32, second: u32) -> Result<bool, LogRefusal>
         ensures refused { SucceedsUnless (before_refusal self.old.count self.old.pairs first second) LogRefusal.Memory result }
         ensures ok { OnOk result (self.new ≡ record self.old { pairs = with_pair self.old.pairs first second }) }

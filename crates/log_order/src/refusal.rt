@@ -5,7 +5,7 @@ ghost use Rattle.log_order.specs.declared.refusal.LogRefusal.TheVariants.{Memory
 use des_base::Memory;
 use std::alloc::{AllocError, AllocFailed};
 
-/// Why a call on a log changed nothing. Where several hold, the first is answered; `Memory` may come in place of any.
+/// Why a call on a log changed nothing. If several hold, the first is answered; `Memory` may come in place of any.
 #[derive(Clone, Copy, PartialEq, Eq)]
 pub enum LogRefusal {
     /// An alarm has the id.

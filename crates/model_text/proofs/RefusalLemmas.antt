@@ -1,4 +1,4 @@
--- What the builder refuses of a line, told by the line's code.
+-- What the builder refuses of a line, by the line's code.
 use Rattle.std.proofs.Common.{◌≡◌, ◌+◌, ◌<◌, ℕ, Bool, true, false, List, [], ◌∷◌, ◌++◌, length, get_or, Option, None, Some, Result, Ok, Err, IsErrAnd, refl, ap, sym, ◌∙◌, subst, arith}
 use Rattle.std.specs.Prelude.{map, not, nat_le, nat_lt, slice_get, is_some, ◌&&◌, ◌||◌}
 use Rattle.std.specs.List.{list_all}

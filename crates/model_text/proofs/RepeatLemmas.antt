@@ -23,7 +23,7 @@ marked : (k b : Bool) → cond k true b ≡ (k || b)
 marked true b = refl
 marked false b = refl
 
--- one name more is marked
+-- one more name is marked
 pub marks-more : (f g : PartName → Bool) (k : List ℕ) → ((q : PartName) → g q ≡ cond (bytes_eq k q.component.now) true (f q)) → (ps : List PartName) → list_any g ps ≡ (is_some (place_of k (names_of ps)) || list_any f ps)
 marks-more f g k more [] = refl
 marks-more f g k more (p ∷ ps) =

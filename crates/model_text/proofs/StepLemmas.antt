@@ -120,7 +120,7 @@ three a b c e f = (λ i. e i && (b && (f i && true))) ∙ and-true b
 both : (o p : Option ℕ) (i j : ℕ) → o ≡ Some i → p ≡ Some j → not (is_some o && is_some p) ≡ false
 both o p i j e f = λ k. not (is_some (e k) && is_some (f k))
 
--- the same of the last section, by its component
+-- the same for the last section, by its component
 abbrev last_code : Automaton → List NamedTransition → (from action to : List ℕ) → Bool → Option ℕ
 last_code c ts from action to past =
     outcome false (is_name_text from && (is_name_text action && (is_name_text to && true)))

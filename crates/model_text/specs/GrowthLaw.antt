@@ -25,7 +25,7 @@ pub record Grows (earlier : List ModelLine) (line : ModelLine) (net : Net) : Typ
   pub well : model_line_code earlier line ≡ None
   pub network : network_of_lines (earlier ++ line ∷ []) ≡ net
 
--- Over the network of any lines, a line adds what it says or is refused, and it is refused exactly where it has a code, which the network tells.
+-- Over the network of any lines, a line adds what it says or is refused, and it is refused exactly if it has a code, which follows from the network.
 pub record LinesGrow : Type 0 where
   pub grows : (earlier : List ModelLine) (line : ModelLine) (net : Net) → IsDraft (network_of_lines earlier) → HasNames (network_of_lines earlier) → grown (network_of_lines earlier) line ≡ Some net → Grows earlier line net
   pub refused : (earlier : List ModelLine) (line : ModelLine) → IsDraft (network_of_lines earlier) → HasNames (network_of_lines earlier) → grown (network_of_lines earlier) line ≡ None → IsSome (model_line_code earlier line)

@@ -18,7 +18,7 @@ use Rattle.model_text.specs.Growth.{grown_by_tokens}
 use Rattle.model_text.specs.LineCodes.{code_by_tokens, IsCoded}
 use Rattle.model_text.specs.Shapes.{part_said}
 
--- the builder has what the line adds, or the line is refused for its code, or memory is wanting
+-- the builder has what the line adds, or the line is refused for its code, or memory ran out
 abbrev pub AddsLine : Net → Option ModelLine → Net → Result (Unit {0}) LineRefusal → Type 0
 AddsLine old line new (Ok _) = grown_by_tokens old line ≡ Some new
 AddsLine old line new (Err refusal) = IsCoded (code_by_tokens old line) refusal
@@ -30,7 +30,7 @@ IsNamedInLine text (Err Name) = is_name_text text ≡ false
 IsNamedInLine text (Err Memory) = ⊤
 IsNamedInLine text (Err refusal) = ⊥
 
--- the same of a label, which an event need not have
+-- the same for a label, which an event need not have
 abbrev pub IsLabelled : Option (List ℕ) → Result (Option (List ℕ)) LineRefusal → Type 0
 IsLabelled label (Ok name) = (name ≡ label) × (list_all is_name_text (option_to_list label) ≡ true)
 IsLabelled label (Err Name) = list_all is_name_text (option_to_list label) ≡ false

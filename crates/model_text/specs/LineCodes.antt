@@ -35,7 +35,7 @@ has_named c from action to = has_placed c action (place_of from c.state_names) (
 abbrev pub is_without_components : Net → Bool
 is_without_components net = nat_le (length net.components) 0
 
--- the first code that a line has, told by the network alone, or none where the line is accepted
+-- the first code that a line has, by the network alone, or none where the line is accepted
 abbrev pub code_by : Net → ModelLine → Option ℕ
 code_by net (component name) =
     first_of false (list_all is_name_text (names_of_line (component name))) (stands_in net.component_names name) false (nat_le most_components (length net.components))

@@ -138,7 +138,7 @@ model_body (header ∷ lines) = lines
 abbrev pub network_of : List ℕ → Net
 network_of bytes = network_of_lines (model_lines (model_body (counted_lines 35 bytes)))
 
--- A refusal names the first fault. Want of memory may come in place of any answer.
+-- A refusal names the first fault. Any call may run out of memory instead.
 abbrev pub IsModelDue : Option ModelFault → ModelRefusal → Type 0
 IsModelDue fault (Fault told) = fault ≡ Some told
 IsModelDue fault Memory = ⊤

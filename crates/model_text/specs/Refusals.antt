@@ -1,4 +1,4 @@
--- What the refusals of names, of the builder and of a line are told as.
+-- What the refusals of names, of the builder and of a line become.
 use Rattle.std.specs.Prelude.{ℕ}
 use Rattle.des_base.specs.declared.name.NameFault.{NameFault}
 use Rattle.des_base.specs.declared.name.NameFault.TheVariants as text
@@ -9,7 +9,7 @@ use Rattle.model_text.specs.declared.fault.ModelRefusal.TheVariants as model
 use Rattle.model_text.specs.declared.refusal.LineRefusal.{LineRefusal}
 use Rattle.model_text.specs.declared.refusal.LineRefusal.TheVariants.{Shape, Homeless, Name, Double, Unknown, Limit, Memory}
 
--- a text that is no name is a fault of its line; want of memory stays what it is
+-- a text that is no name is a fault of its line; `Memory` stays what it is
 abbrev pub line_refusal_of_name : NameFault → LineRefusal
 line_refusal_of_name text.Shape = Name
 line_refusal_of_name text.Memory = Memory

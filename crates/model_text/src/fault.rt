@@ -19,7 +19,7 @@ pub struct ModelFault {
 pub enum ModelRefusal {
     /// The text has a fault.
     Fault(ModelFault),
-    /// Want of memory.
+    /// Memory ran out.
     Memory,
 }
 

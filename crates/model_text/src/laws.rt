@@ -2,8 +2,8 @@
 ghost use Rattle.model_text.specs.GrowthLaw.{LinesGrow};
 ghost use Rattle.model_text.specs.ReadBack.{ModelsReadBack};
 
-/// A line is refused exactly where it has a code, which the network of the lines before it tells, and else adds what it says to
-/// that network.
+/// A line is refused exactly if it has a code, which follows from the network of the lines before it, and else adds what it
+/// says to that network.
 #[tactic(auto, using(crate::proofs::LawLemmas::lines_grow))]
 pub fn lines_grow()
     ensures { LinesGrow }

@@ -13,7 +13,7 @@ pub(crate) fn name_of(alloc: Global, text: &[u8]) -> Result<Name, LineRefusal>
     Ok(Name::new(alloc, text)?)
 }
 
-// The label as a name, where there is one.
+// The label as a name, if there is one.
 pub(crate) fn label_of(alloc: Global, label: Option<&[u8]>) -> Result<Option<Name>, LineRefusal>
     ensures { IsLabelled (option_map (λ text. text.now) label.entry) result }
 {

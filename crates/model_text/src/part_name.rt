@@ -58,7 +58,7 @@ fn without_first(text: &[u8]) -> &[u8]
     }
 }
 
-// How many bytes stand before the first dot, or all where there is none.
+// How many bytes stand before the first dot, or all if there is none.
 fn dot_place(text: &[u8]) -> usize
     ensures place { result ≡ position_or_len (λ byte. byte == 46) text.now }
     ensures within { result ≤ length text.now }

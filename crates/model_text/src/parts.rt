@@ -23,7 +23,7 @@ pub(crate) fn are_names(parts: &[PartName]) -> bool
         .all(|part| is_name(part.component) && is_name(part.action))
 }
 
-// The parts by number, where each is known.
+// The parts by number, if each is known.
 pub(crate) fn find_parts(
     alloc: Global,
     builder: &Builder,

@@ -71,7 +71,7 @@ fn component_number(bytes: &[u8], comp: CompId) -> u32
     }
 }
 
-// The number of the line that begins a component behind so many others, or 0 where none does.
+// The number of the line that begins a component after `comp` others, or 0 if none does.
 fn component_number_in(mut lines: Lines, comp: u32) -> u32
     ensures { result ≡ slice_index (component_numbers lines.entry) comp }
 {

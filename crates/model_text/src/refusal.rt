@@ -23,7 +23,7 @@ pub enum LineRefusal {
     Unknown,
     // A limit would be passed.
     Limit,
-    // Want of memory.
+    // Memory ran out.
     Memory,
 }
 

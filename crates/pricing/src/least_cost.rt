@@ -14,8 +14,8 @@ use proof_ledger::Ledger;
 use std::alloc::Global;
 
 /// Asks for the least total cost of a run that explains the log, by a search that may learn as many clauses as the budget says. Fault
-/// events cost what the table says, and a false alarm costs 1. The clauses that weigh them stand behind those of the question. After
-/// want of memory the book has the axioms of the question, and what was put behind them so far.
+/// events cost what the table says, and a false alarm costs 1. The clauses that weigh them stand behind those of the question. If
+/// memory runs out, the book has the axioms of the question, and what was put behind them so far.
 #[derive(Clone, Copy)]
 pub struct LeastCost<'a> {
     pub table: &'a CostTable,

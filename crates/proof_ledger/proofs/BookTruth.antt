@@ -9,7 +9,7 @@ use Rattle.prop_core.specs.Derivation.{clause_numbered}
 use Rattle.proof_ledger.proofs.Checks.{numbered_true}
 use Rattle.proof_ledger.specs.Book.{BookEntry, axiomatic, learnt, final, mark, clause_of, clauses_of, axioms_of, EachAfter, IsDerivedIfDue, IsValidBook}
 
--- one entry more, whose clause is true
+-- one more entry, whose clause is true
 more_true : (value : ℕ → Bool) (earlier : List BookEntry) (e : BookEntry) → IsDerivedIfDue earlier e → AllClausesTrue value (clauses_of earlier) → AllClausesTrue value (axioms_of (e ∷ [])) → AllClausesTrue value (clauses_of (e ∷ []))
 more_true value earlier (axiomatic clause) derived all axioms = axioms
 more_true value earlier (learnt clause hints) derived all axioms = (derived_clauses_are_true (clause_numbered (clauses_of earlier)) clause hints derived value (numbered_true value (clauses_of earlier) all), tt)

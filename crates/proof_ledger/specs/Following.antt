@@ -29,12 +29,12 @@ abbrev pub derivation_of : Outcome → Derivation
 derivation_of outcomes.Derives = derives
 derivation_of (outcomes.Fails at kind) = fails at kind
 
--- a step fails at one of so many hints, or behind them
+-- a step fails at one of `count` hints, or behind them
 abbrev pub IsPlaceWithin : ℕ → Outcome → Type 0
 IsPlaceWithin count outcomes.Derives = ⊤
 IsPlaceWithin count (outcomes.Fails at kind) = at ≤ count
 
--- a derivation that fails has this fault, at this place and of this kind; want of memory says nothing
+-- a derivation that fails has this fault, at this place and of this kind; `Memory` says nothing
 abbrev pub IsFaultOf : Derivation → DeriveFault → Type 0
 IsFaultOf derivation (Hint at kind) = derivation ≡ fails at kind
 IsFaultOf derivation Memory = ⊤

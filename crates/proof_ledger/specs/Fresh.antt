@@ -38,7 +38,7 @@ IfLearnt (learnt clause hints) P = P clause
 IfLearnt (final clause hints) P = ⊤
 IfLearnt (mark number) P = ⊤
 
--- since then the book has so many learnt entries, and each was fresh
+-- since then the book has `count` learnt entries, and each was fresh
 pub record AreFresh (earlier since : List BookEntry) (count : ℕ) : Type 0 where
   pub number : count_by is_learnt since ≡ count
   pub each : EachAfter (λ before entry. IfLearnt entry (IsFreshClause before)) earlier since

@@ -4,6 +4,6 @@ use Rattle.prop_core.specs.declared.lit.Lit.{Lit}
 use Rattle.prop_core.specs.Clauses.{is_true}
 use Rattle.prop_core.specs.LiteralNumbers.{literal_number}
 
--- just the literals that are taken are marked, each at the place of its number
+-- exactly the literals that are taken are marked, each at the place of its number
 abbrev pub AreMarked : List Bool → List Lit → Type 0
 AreMarked marks taken = (l : Lit) → slice_index_or marks (literal_number l) false ≡ is_true taken l

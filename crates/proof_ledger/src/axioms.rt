@@ -7,7 +7,7 @@ use des_base::Memory;
 use prop_core::{ClauseId, Clauses};
 
 impl Ledger {
-    /// Adds clauses as axioms. After want of memory the book may hold the first of them.
+    /// Adds clauses as axioms. If memory runs out, the book may hold the first of them.
     pub fn add_axioms(&mut self, clauses: &Clauses) -> Result<(), Memory>
         ensures added { OnOk result (self.new.entries ≡ self.old.entries ++ map axiomatic clauses.now.clauses) }
         ensures some { (count : ℕ) × (self.new.entries ≡ self.old.entries ++ map axiomatic (take count clauses.now.clauses)) }

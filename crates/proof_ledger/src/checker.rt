@@ -55,8 +55,8 @@ pub fn check(alloc: Global, axioms: &Clauses, steps: &[ProofStep]) -> Result<Che
     Ok(Checked::Rejected { line: 0, kind: 4 })
 }
 
-// For how many numbers from 0 on it is worth to have a list: up to the greatest number of a step, if that is no more than four for each step
-// beyond the axioms. Whatever it is, a proof comes to the same.
+// For how many numbers from 0 on it is worthwhile to have a list: up to the greatest number of a step, if that is no more than four for each step
+// beyond the axioms. Whatever it is, the outcome of a proof is the same.
 fn room(axioms: u64, steps: &[ProofStep]) -> usize {
     let most = axioms.saturating_add((steps.len() as u64).saturating_mul(4));
     let mut greatest = axioms;

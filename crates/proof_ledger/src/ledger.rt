@@ -100,7 +100,7 @@ impl Ledger {
         self.hints.piece(id.0 as usize - 1)
     }
 
-    /// Sees to it that there is room for this many more clauses with this many literals together.
+    /// Makes sure that there is room for this many more clauses with this many literals together.
     pub fn reserve(&mut self, clauses: usize, lits: usize) -> Result<(), Memory>
         ensures same { self.new.entries ≡ self.old.entries }
         ensures ok_clauses { OnOk result (self.new.spare_clauses ≡ max self.old.spare_clauses clauses) }
@@ -129,7 +129,7 @@ impl Ledger {
         id
     }
 
-    /// Adds an axiom. Like every call that adds a clause, it uses up room where some was reserved.
+    /// Adds an axiom. Like every call that adds a clause, it uses up reserved room.
     pub fn add_axiom(&mut self, clause: &[Lit]) -> Result<ClauseId, Memory>
         ensures added { OnOk result (self.new.entries ≡ self.old.entries ++ axiomatic clause.now ∷ []) }
         ensures id { IfOk result (λ id. id ≡ length (clauses_of self.new.entries)) }
@@ -178,7 +178,7 @@ impl Ledger {
         Ok(())
     }
 
-    /// Adds a learnt clause where the hints derive it, and says else which hint doesn't lead on, and why.
+    /// Adds a learnt clause if the hints derive it, and otherwise says which hint doesn't lead on, and why.
     pub fn try_derive(
         &mut self,
         clause: &[Lit],

@@ -1,4 +1,4 @@
--- A line of a proof has no code just where its step is read.
+-- A line of a proof has no code exactly if its step is read.
 use Rattle.std.proofs.Common.{◌≡◌, ℕ, Bool, true, false, List, [], ◌∷◌, Option, None, Some, cond, refl, arith, ap, ◌∙◌}
 use Rattle.std.proofs.lemmas.Bool.Decides.{nat_tests}
 use Rattle.std.specs.Prelude.{◌&&◌, ◌==◌, not, nat_lt, nat_le, is_some, option_map, option_and_then, unwrap_or}

@@ -164,7 +164,7 @@ ends_never book last h = take_whole book ∙ sym (front_all book last (subst (λ
 
 -- ---- the axioms
 
--- what the entries up to a place have, with that of one entry more
+-- what the entries up to a place have, with that of one more entry
 module _ {X : Type 0} (f : BookEntry → Option X) (book : List BookEntry) (place : ℕ) (e : BookEntry) (is : slice_get book place ≡ Some e) where
   pub of_more : filter_map f (take (place + 1) book) ≡ filter_map f (take place book) ++ filter_map f (e ∷ [])
   of_more = ap (filter_map f) (take_at book place e is) ∙ filter_map-append f (take place book) (e ∷ [])

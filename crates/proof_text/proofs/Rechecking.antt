@@ -99,7 +99,7 @@ module _ (held kept : ℕ → Option Clause) (f : ℕ → ℕ) (same : (n : ℕ)
       by None is later = absurd (failed at 1 (follow held taken at (hint ∷ hints)) (follow_ended held taken at hint hints (fails at 1) (ap (after_hint taken at) is)) h)
       by (Some c) is later = by_standing c (standing taken c) is refl later
 
--- ---- one clause more
+-- ---- one more clause
 
 one_more : (xs : List Clause) (c : Clause) → with_clause (clause_numbered xs) (length xs + 1) c ≡ clause_numbered (xs ++ c ∷ [])
 one_more xs c = held_same (with_clause (clause_numbered xs) (length xs + 1) c) (clause_numbered (xs ++ c ∷ [])) at

@@ -1,4 +1,4 @@
--- A line of a proof is read just where it has no code, and then its step is what the line says.
+-- A line of a proof is read exactly if it has no code, and then its step is what the line says.
 use Rattle.std.proofs.Common.{◌≡◌, ◌<◌, ℕ, Bool, true, false, List, [], ◌∷◌, map, Option, None, Some, cond, refl, arith, rules, ap, sym, ◌∙◌}
 use Rattle.std.proofs.lemmas.Bool.Decides.{nat_tests}
 use Rattle.std.proofs.lemmas.List.Elements.{All-nil, All-cons}

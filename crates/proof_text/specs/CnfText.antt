@@ -23,7 +23,7 @@ header_words (p ∷ cnf ∷ vars ∷ []) = None
 header_words (p ∷ cnf ∷ vars ∷ clauses ∷ []) = if bytes_eq p (codes "p") && bytes_eq cnf (codes "cnf") then Some (vars, clauses) else None
 header_words (p ∷ cnf ∷ vars ∷ clauses ∷ more ∷ words) = None
 
--- the header that states so many variables and so many clauses
+-- the header that states `vars` variables and `clauses` clauses
 abbrev pub stated : ℕ → ℕ → Header
 stated vars clauses = record { vars = vars; clauses = clauses }
 
@@ -62,7 +62,7 @@ abbrev pub some_open : Clause → Bool
 some_open [] = false
 some_open (l ∷ ls) = true
 
--- The code of a token, where some of a clause stands before it or none, and so many clauses may still begin.
+-- The code of a token, where some of a clause stands before it or none, and `left` clauses may still begin.
 abbrev pub token_code : ℕ → ℕ → Bool → List ℕ → Option ℕ
 token_code vars left is_open text =
     if not (is_number text) then Some not_a_number
@@ -70,7 +70,7 @@ token_code vars left is_open text =
     else if not is_open && left == 0 then Some other_count
     else None
 
--- the code of the end, where so many clauses may still begin and a clause is open or not; none where all are there and ended
+-- the code of the end, where `left` clauses may still begin and a clause is open or not; none where all are there and ended
 abbrev pub end_code : ℕ → Bool → Option ℕ
 end_code left is_open = if is_open then Some not_ended else if nat_lt 0 left then Some other_count else None
 
@@ -126,7 +126,7 @@ pub record Formula : Type 0 where
   pub vars : ℕ
   pub clauses : List Clause
 
--- the clauses, as a formula over so many variables
+-- the clauses, as a formula over `vars` variables
 abbrev pub formula : ℕ → List Clause → Formula
 formula vars clauses = record { vars = vars; clauses = clauses }
 

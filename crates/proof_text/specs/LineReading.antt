@@ -12,7 +12,7 @@ use Rattle.proof_text.specs.LratText.{Cut, cut_at_zero, greatest, is_too_large, 
 abbrev pub is_id : List ℕ → Bool
 is_id token = is_unsigned token && not (is_too_large token)
 
--- a literal of one of so many variables, or 0
+-- a literal of one of the first `vars` variables, or 0
 abbrev pub is_known_literal : ℕ → List ℕ → Bool
 is_known_literal vars token = is_number token && not (nat_lt vars (size_of token))
 
@@ -28,7 +28,7 @@ section test value tokens = section_of test value (cut_at_zero tokens)
 abbrev pub ids_section : List (List ℕ) → Option (List ℕ × List (List ℕ))
 ids_section tokens = section is_id size_of tokens
 
--- the literals before the first `0`, where there are so many variables, and what follows it
+-- the literals before the first `0`, where there are `vars` variables, and what follows it
 abbrev pub literals_section : ℕ → List (List ℕ) → Option (List Lit × List (List ℕ))
 literals_section vars tokens = section (is_known_literal vars) literal_of tokens
 
@@ -44,7 +44,7 @@ ids_only tokens = option_and_then only (ids_section tokens)
 abbrev pub with_hints : List Lit × List (List ℕ) → Option (List Lit × List ℕ)
 with_hints read = option_map (λ hints. (read.0, hints)) (ids_only read.1)
 
--- the literals up to a `0`, over so many variables, and the hints up to another that ends the line
+-- the literals up to a `0`, over `vars` variables, and the hints up to another that ends the line
 abbrev pub literals_and_hints : ℕ → List (List ℕ) → Option (List Lit × List ℕ)
 literals_and_hints vars tokens = option_and_then with_hints (literals_section vars tokens)
 
@@ -65,7 +65,7 @@ abbrev pub step_read : ℕ → ℕ → ℕ → List (List ℕ) → ℕ → Optio
 step_read line vars last [] id = addition_read line vars last id []
 step_read line vars last (token ∷ tokens) id = if is_deletion_mark token then deletion_read tokens else addition_read line vars last id (token ∷ tokens)
 
--- the step of the tokens of a line, where there are so many variables and an addition has to be numbered above `last`; none where they say no step
+-- the step of the tokens of a line, where there are `vars` variables and an addition has to be numbered above `last`; none where they say no step
 abbrev pub line_read : ℕ → ℕ → ℕ → List (List ℕ) → Option ProofStep
 line_read line vars last [] = None
 line_read line vars last (id ∷ tokens) = option_and_then (step_read line vars last tokens) (number_up_to greatest id)

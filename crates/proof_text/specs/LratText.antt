@@ -87,7 +87,7 @@ first_lrat_code large strange unended low unknown negative =
     else if negative then Some negative_hint
     else None
 
--- The code of a line, where there are so many variables, and an addition's number has to be greater than this one.
+-- The code of a line, where there are `vars` variables, and an addition's number has to be greater than `last`.
 abbrev pub lrat_line_code : ℕ → ℕ → LratLine → Option ℕ
 lrat_line_code vars last (addition id literals hints ended rest) = first_lrat_code
     (is_too_large id || list_any is_too_large hints)
@@ -112,7 +112,7 @@ abbrev pub last_after : ℕ → ProofStep → ℕ
 last_after last (Add line id clause hints) = id
 last_after last (Delete ids) = last
 
--- the first fault of the lines of a proof, where there are so many variables and the first addition has to be numbered above `last`
+-- the first fault of the lines of a proof, where there are `vars` variables and the first addition has to be numbered above `last`
 abbrev pub lrat_fault_of : ℕ → ℕ → List NumberedLine → Option TextFault
 lrat_fault_of vars last [] = None
 lrat_fault_of vars last (line ∷ lines) =

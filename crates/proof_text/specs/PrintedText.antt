@@ -19,7 +19,7 @@ literals_text clause = flat_map (λ l. literal_word l ++ 32 ∷ []) clause
 abbrev pub clause_text : Clause → List ℕ
 clause_text clause = literals_text clause ++ codes "0\n"
 
--- the line `p cnf V C` of so many variables and clauses
+-- the line `p cnf V C` of `vars` variables and `clauses` clauses
 abbrev pub header_text : ℕ → ℕ → List ℕ
 header_text vars clauses = codes "p cnf " ++ (decimal vars ++ 32 ∷ []) ++ decimal clauses ++ 10 ∷ []
 
@@ -68,7 +68,7 @@ abbrev pub HasVariablesBelow : ℕ → ProofStep → Type 0
 HasVariablesBelow vars (Add line id clause hints) = HasValues vars clause
 HasVariablesBelow vars (Delete ids) = ⊤
 
--- The text is one of this proof, but for the numbers of the lines, where there are so many variables and clauses.
+-- The text is one of this proof, but for the numbers of the lines, where there are `vars` variables and `clauses` clauses.
 pub record IsProofText (vars clauses : ℕ) (steps : List ProofStep) (text : List ℕ) : Type 0 where
   pub well : first_lrat_fault vars clauses text ≡ None
   pub value : map without_line (proof_of text) ≡ map without_line steps

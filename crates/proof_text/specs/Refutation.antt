@@ -78,7 +78,7 @@ derived_steps numbers next (learnt clause hints ∷ book) = Add 0 next clause (m
 derived_steps numbers next (final clause hints ∷ book) = Add 0 next clause (map (new_number numbers) hints) ∷ derived_steps numbers (next + 1) book
 derived_steps numbers next (mark k ∷ book) = derived_steps numbers next book
 
--- the steps behind so many axioms and so many assumptions, and the empty clause by the assumptions and the clause that was the last
+-- the steps behind `axioms` axioms and `assumptions` assumptions, and the empty clause by the assumptions and the clause that was the last
 abbrev pub steps_to_empty_clause : List ℕ → ℕ → ℕ → ℕ → List BookEntry → List ProofStep
 steps_to_empty_clause numbers axioms assumptions last book =
     derived_steps numbers (axioms + assumptions + 1) book

@@ -60,6 +60,6 @@ entry n = if n.size == 0 then End else Literal (literal n)
 abbrev pub within : ℕ → Signed → Option Signed
 within vars n = if nat_le n.size vars then Some n else None
 
--- the literal or the end that a text spells, where it is a number and its variable is one of so many
+-- the literal or the end that a text spells, where it is a number and its variable is one of the first `vars`
 abbrev pub entry_within : ℕ → List ℕ → Option Entry
 entry_within vars text = option_map entry (option_and_then (within vars) (signed_of text))

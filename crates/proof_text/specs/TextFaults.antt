@@ -45,7 +45,7 @@ abbrev pub text_fault_or : ℕ → Option ℕ → Option TextFault → Option Te
 text_fault_or line None later = later
 text_fault_or line (Some code) later = fault_on_line line code
 
--- A refusal for a fault tells the first fault of the text. Want of memory says nothing.
+-- A refusal for a fault has the first fault of the text. `Memory` says nothing.
 abbrev pub IsTextDue : Option TextFault → TextRefusal → Type 0
 IsTextDue fault (Fault told) = fault ≡ Some told
 IsTextDue fault Memory = ⊤

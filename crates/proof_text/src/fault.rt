@@ -27,7 +27,7 @@ pub struct TextFault {
 pub enum TextRefusal {
     /// The text has a fault.
     Fault(TextFault),
-    /// Want of memory.
+    /// Memory ran out.
     Memory,
 }
 

@@ -14,7 +14,7 @@ use des_base::{Line, Lines, VAR_LIMIT};
 use proof_ledger::ProofStep;
 use std::alloc::Global;
 
-/// The proof that the text says, of a formula with so many variables and clauses: each line is a step, `ID LITERALS 0 HINTS 0`
+/// The proof that the text says, of a formula with `vars` variables and `clauses` clauses: each line is a step, `ID LITERALS 0 HINTS 0`
 /// or `ID d IDS 0`.
 ///
 /// Words stand between spaces and tabs. Blank lines and lines that begin with `c` are skipped. Literals are kept as written,

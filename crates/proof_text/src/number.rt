@@ -16,7 +16,7 @@ pub(crate) enum Entry {
     End,
 }
 
-// The literal that the text spells, or the end of a clause. None where it's no number, or its variable isn't one of so many.
+// The literal that the text spells, or the end of a clause. None where it's no number, or its variable isn't one of the first `vars`.
 pub(crate) fn read_entry(text: &[u8], vars: u32) -> Option<Entry>
     requires { vars ≤ VAR_LIMIT }
     ensures { result ≡ entry_within vars text.now }

@@ -87,7 +87,7 @@ impl BookFront<'_> {
         axioms
     }
 
-    // The proof behind so many axioms, and so many clauses of the formula in all.
+    // The proof behind `axioms` axioms, and `clauses` clauses of the formula in all.
     fn proof(&self, axioms: u64, clauses: u64, last: ClauseId) -> Result<Proof, Memory>
         requires within { self.now.count ≤ length self.now.book.now.entries }
         requires units { axioms ≤ clauses }

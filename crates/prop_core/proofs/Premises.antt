@@ -10,7 +10,7 @@ pub one_premise : (a b : Bool) → (a ≡ true → b ≡ true) → not a || b �
 one_premise true b h = h refl
 one_premise false b h = refl
 
--- the same of a clause of two literals
+-- the same for a clause of two literals
 pub implied : (a b : Bool) → not a || (b || false) ≡ true → a ≡ true → b ≡ true
 implied true true h e = refl
 implied true false h e = cc

@@ -43,7 +43,7 @@ no_hint = refl
 refuted : from_five (yes 2 ∷ []) [] (5 ∷ 3 ∷ 4 ∷ []) ≡ derives
 refuted = refl
 
--- with the second variable false, clause 3 is true and tells nothing
+-- with the second variable false, clause 3 is true and is skipped
 true_hint_is_skipped : from_four (yes 2 ∷ []) (3 ∷ 1 ∷ 2 ∷ []) ≡ derives
 true_hint_is_skipped = refl
 
@@ -55,7 +55,7 @@ repeated_literal_counts_once : from_five (yes 1 ∷ yes 1 ∷ []) (no 2 ∷ []) 
 repeated_literal_counts_once = refl
 
 -- Where the clause that is to derive has a literal and its negation, both are true and both are false: then a hint with
--- just these is false,
+-- exactly these is false,
 false_before_true : from_five (yes 1 ∷ no 1 ∷ []) (yes 1 ∷ no 1 ∷ []) (5 ∷ []) ≡ derives
 false_before_true = refl
 

@@ -81,7 +81,7 @@ pub record IsCode (meanings : List (ℕ × Meaning)) (family : List NamedLiteral
 abbrev pub AllHold : (List NamedLiteral → Type 0) → (Meaning → Bool) → Type 0
 AllHold family value = (named : List NamedLiteral) → family named → IsTrue (named_clause_true value named)
 
--- Clauses of a family are true exactly where the family is, by name.
+-- Clauses of a family are true exactly if the family is, by name.
 abbrev pub CodeHolds : (List NamedLiteral → Type 0) → Type 0
 CodeHolds family = (meanings : List (ℕ × Meaning)) (clauses : List Clause) (assignment : ℕ → Bool) (value : Meaning → Bool) →
     IsCode meanings family clauses → Match meanings assignment value → AllClausesTrue assignment clauses ↔ AllHold family value

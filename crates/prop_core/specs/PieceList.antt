@@ -21,6 +21,6 @@ abbrev pub EndsAscend : ℕ → ℕ → List ℕ → Type 0
 EndsAscend start last [] = start ≡ last
 EndsAscend start last (end ∷ ends) = (start ≤ end) × EndsAscend end last ends
 
--- so many items later
+-- an end that comes `later` items later
 abbrev pub later_by : ℕ → ℕ → ℕ
 later_by later end = later + end

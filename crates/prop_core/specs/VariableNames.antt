@@ -12,7 +12,7 @@ pub data Exclusion : Type 0 where
 
 -- what a variable of a question stands for: something of the run or the log, or a part of a chain, of a counter or of an "at most one"
 pub data Meaning : Type 0 where
-  -- the component is in the state after so many steps
+  -- the component is in the state after `step` steps
   in_state : (component state step : ℕ) → Meaning
   -- the event happens in the step
   happens : (event step : ℕ) → Meaning
@@ -24,11 +24,11 @@ pub data Meaning : Type 0 where
   done : (alarm steps : ℕ) → Meaning
   -- the event happens in the step, and none of the first alarms of its chain stands for it, of which there is at least one
   unmatched : (event alarms step : ℕ) → Meaning
-  -- the chain of the event ends after so many alarms
+  -- the chain of the event ends after `alarms` alarms
   closed : (event alarms : ℕ) → Meaning
   -- the alarm, which is perhaps false, is
   dropped : (alarm : ℕ) → Meaning
-  -- of the first inputs at least so many are true
+  -- of the first inputs at least `amount` are true
   reaches : (inputs amount : ℕ) → Meaning
   -- one of the first inputs of an "at most one" is true
   some_of_first : Exclusion → (inputs : ℕ) → Meaning

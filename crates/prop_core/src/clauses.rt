@@ -85,7 +85,7 @@ impl Clauses {
         self.pieces.piece(id.0 as usize - 1)
     }
 
-    /// Sees to it that there is room for this many more clauses with this many literals together.
+    /// Makes sure that there is room for this many more clauses with this many literals together.
     pub fn reserve(&mut self, clauses: usize, lits: usize) -> Result<(), Memory>
         ensures same { self.new.clauses ≡ self.old.clauses }
         ensures ok_clauses { OnOk result (self.new.spare_clauses ≡ max self.old.spare_clauses clauses) }
@@ -108,7 +108,7 @@ impl Clauses {
         ClauseId(self.pieces.len() as u64)
     }
 
-    /// Adds a clause. It uses up room where some was reserved.
+    /// Adds a clause. It uses up reserved room.
     pub fn push(&mut self, clause: &[Lit]) -> Result<ClauseId, Memory>
         ensures added { OnOk result (self.new.clauses ≡ self.old.clauses ++ clause.now ∷ []) }
         ensures id { IfOk result (λ id. id ≡ length self.new.clauses) }

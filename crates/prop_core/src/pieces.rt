@@ -94,7 +94,7 @@ impl<T: Copy> Pieces<T> {
         &self.items[start..end]
     }
 
-    /// Sees to it that there is room for this many more lists with this many items together.
+    /// Makes sure that there is room for this many more lists with this many items together.
     pub fn reserve(&mut self, pieces: usize, items: usize) -> Result<(), Memory>
         ensures same { self.new.pieces ≡ self.old.pieces }
         ensures ok_pieces { OnOk result (self.new.spare_pieces ≡ max self.old.spare_pieces pieces) }
@@ -153,7 +153,7 @@ fn start(ends: &[u32], place: usize) -> u32
 // How many lists or items there may be.
 const MOST: usize = u32::MAX as usize;
 
-// Sees to it that there is room for so many more items beside the spare ones, if there may be so many.
+// Makes sure that there is room for `more` items beside the spare ones, if there may be that many.
 fn make_room<X>(items: &mut Vec<X>, spare: usize, more: usize) -> Result<(), Memory>
     requires few { vec_len items.old + spare < 2 ^ 32 }
     ensures same { (items.new.items ≡ items.old.items) × (vec_len items.new ≡ vec_len items.old) }
@@ -168,7 +168,7 @@ fn make_room<X>(items: &mut Vec<X>, spare: usize, more: usize) -> Result<(), Mem
     Ok(())
 }
 
-// Adds ends of lists that are to stand so many items later, in room that is there.
+// Adds ends of lists that stand `later` items further on, in room that is there.
 fn append_ends(ends: &mut Vec<u32>, later: u32, more: &[u32])
     requires room { vec_len ends.old + length more.now ≤ vec_capacity ends.old }
     requires small { (count : ℕ) × EndsAscend 0 count more.now × (later + count < 2 ^ 32) }

@@ -37,7 +37,7 @@ impl Vars {
         self.count
     }
 
-    /// Makes this many new variables, one after another, and answers the first of them.
+    /// Makes this many new variables, one after another, and returns the first of them.
     pub fn fresh(&mut self, k: u32) -> u32
         requires { self.old + k ≤ VAR_LIMIT }
         ensures first { result ≡ self.old }

@@ -1,4 +1,4 @@
--- A run is accepted exactly where it is well matched and explains, and has one answer at most.
+-- A run is accepted exactly if it is well matched and explains, and has one answer at most.
 use Rattle.std.proofs.Common.{◌≡◌, ◌≢◌, ℕ, ◌+◌, ◌<◌, Bool, true, false, cond, not, ◌&&◌, List, [], ◌∷◌, ◌++◌, length, Option, None, Some, refl, arith, ap, sym, ◌∙◌, subst, Contains, ◌⊎◌, inl, inr}
 use Rattle.std.specs.Prelude.{is_some, IsSome, IsSomeAnd, nat_le, option_map, count_by}
 use Rattle.std.specs.List.{AllByRecursion, AllZip, cons_option}
@@ -269,7 +269,7 @@ accepted_explains net log run n faults = (
 
 -- ---- one answer
 
--- what a run that can be performed is told
+-- what the answer to a run that can be performed is
 abbrev answer : Option ℕ → Option ℕ → Option (ℕ × ℕ) → ℕ → ℕ → ℕ → Replayed
 answer (Some at) missing wrong pieces n faults = BadAlarm at
 answer None (Some alarm) wrong pieces n faults = Missing alarm
@@ -320,7 +320,7 @@ replies_are_unique net log run n a b p q = elim (told net log run n a p) [
   ]
 ]
 
--- a run's answer says that it is accepted exactly where it is
+-- a run's answer says that it is accepted exactly if it is
 pub accepted_where : (net : Net) (log : Log) (run : List RunStep) (n : ℕ) (replayed : Replayed) → IsReplayed net log run n replayed → (faults : ℕ) → ((replayed ≡ Accepted faults → IsAccepted net log run n faults) × (IsAccepted net log run n faults → replayed ≡ Accepted faults))
 accepted_where net log run n replayed h faults = (
   λ e. (accepted_explains net log run n faults).0 (subst (IsReplayed net log run n) e h),

@@ -1,4 +1,4 @@
--- The last piece in which each component was touched tells which events go into the present one.
+-- The last piece in which each component was touched decides which events go into the present one.
 use Rattle.std.proofs.Common.{◌≡◌, ℕ, zero, suc, ◌+◌, ◌<◌, ◌≤◌, Bool, true, false, cond, ◌||◌, List, [], ◌∷◌, length, refl, arith, ap, sym, ◌∙◌, subst, get_or, drop, replicate, zero-add}
 use Rattle.std.specs.Prelude.{◌==◌, All}
 use Rattle.std.specs.List.{list_any}

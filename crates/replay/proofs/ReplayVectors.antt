@@ -1,4 +1,4 @@
--- Worked logs: what explains them, and what a run against them is told.
+-- Worked logs: what explains them, and what replaying a run against them gives.
 use Rattle.std.proofs.Common.{◌≡◌, ℕ, zero, suc, true, false, List, [], ◌∷◌, Option, Some, None, refl, arith, cond, lit<}
 use Rattle.std.specs.Prelude.{Bool, codes, map, filter, ◌||◌}
 use Rattle.std.specs.List.{AllZip}

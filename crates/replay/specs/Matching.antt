@@ -96,7 +96,7 @@ bad_alarm net log run = bad_alarm_from net log [] 1 run
 
 -- ---- alarms without a place, and pairs the wrong way round
 
--- the least of so many alarms that isn't in the order
+-- the least of `alarms` alarms that isn't in the order
 abbrev pub missing_alarm : ℕ → List ℕ → Option ℕ
 missing_alarm alarms order = first_below alarms (λ alarm. not (is_in order alarm))
 

@@ -9,7 +9,7 @@ pub record Placed : Type 0 where
   pub alarms : ℕ
   pub order : List ℕ
 
--- of so many alarms none has a place yet
+-- none of `alarms` alarms has a place yet
 abbrev pub none_placed : ℕ → Placed
 none_placed alarms = record { alarms = alarms; order = [] }
 

@@ -1,4 +1,4 @@
--- How large a question is, told before any clause is written, and a bound on its variables.
+-- How large a question is, known before any clause is written, and a bound on its variables.
 use Rattle.std.specs.Prelude.{ℕ, ◌+◌, ◌*◌, ◌^◌, length, sum_by, count_by}
 use Rattle.des_base.specs.ChainCount.{chain_count}
 use Rattle.des_base.specs.Lists.{numbers_below}
@@ -28,7 +28,7 @@ question_size net log n = n * (component_sizes net + alarm_sizes net log + lengt
 abbrev pub alarm_variables : ℕ → ℕ → ℕ
 alarm_variables n m = n * (2 * m + chain_count m + 1) + 1 + m
 
--- at most so many variables stand for a question: a doubtful alarm has one, and one in each column of the counter
+-- at most this many variables stand for a question: a doubtful alarm has one, and one in each column of the counter
 abbrev pub variable_bound : Net → Log → ℕ → ℕ
 variable_bound net log n =
     step_variables net n + 1 + observable_count net

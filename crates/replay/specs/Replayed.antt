@@ -1,4 +1,4 @@
--- What replaying a run against a log tells: that it explains the log, or the first that is wrong with it.
+-- The result of replaying a run against a log: that it explains the log, or the first that is wrong with it.
 use Rattle.std.specs.Prelude.{◌≡◌, ⊤, ℕ, ◌<◌, ◌≤◌, ◌↔◌, List, length, None, Some}
 use Rattle.des_net.specs.Network.{Net}
 use Rattle.des_net.specs.Run.{IsRun}
@@ -29,7 +29,7 @@ IsReplayed net log run n (Order first second) =
 IsReplayed net log run n (TooWide pieces) = IsRun net (word_of run) × HasAlarms net log run × (pieces ≡ need net (word_of run)) × (n < pieces)
 IsReplayed net log run n (Accepted faults) = IsRun net (word_of run) × HasAlarms net log run × (need net (word_of run) ≤ n) × (faults ≡ faults_of net (word_of run) (order_of log run))
 
--- the alarms that an answer names are among so many
+-- the alarms that an answer names are among the first `alarms`
 abbrev pub NamesKnown : ℕ → Replayed → Type 0
 NamesKnown alarms (Stuck at) = ⊤
 NamesKnown alarms (BadAlarm at) = ⊤
@@ -38,7 +38,7 @@ NamesKnown alarms (Order first second) = (first < alarms) × (second < alarms)
 NamesKnown alarms (TooWide pieces) = ⊤
 NamesKnown alarms (Accepted faults) = ⊤
 
--- The run is well matched, and its events with its alarms explain the log within n pieces, with so many faults.
+-- The run is well matched, and its events with its alarms explain the log within n pieces, with `faults` faults.
 pub record IsAccepted (net : Net) (log : Log) (run : List RunStep) (n faults : ℕ) : Type 0 where
   pub matched : IsWellMatched net log run
   pub explains : Explains net log n (pair_of log run).0 (pair_of log run).1
@@ -48,6 +48,6 @@ pub record IsAccepted (net : Net) (log : Log) (run : List RunStep) (n faults : �
 abbrev pub RepliesAreUnique : Type 0
 RepliesAreUnique = (net : Net) (log : Log) (run : List RunStep) (n : ℕ) (a b : Replayed) → IsReplayed net log run n a → IsReplayed net log run n b → a ≡ b
 
--- a run is accepted exactly where it is well matched and explains
+-- a run is accepted exactly if it is well matched and explains
 abbrev pub AcceptedExplains : Type 0
 AcceptedExplains = (net : Net) (log : Log) (run : List RunStep) (n faults : ℕ) → IsReplayed net log run n (Accepted faults) ↔ IsAccepted net log run n faults

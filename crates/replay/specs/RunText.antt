@@ -16,7 +16,7 @@ use Rattle.replay.specs.declared.run_text.RunRefusal.TheVariants.{Fault, Memory}
 abbrev pub is_reply_word : List ℕ → Bool
 is_reply_word word = bytes_eq word (codes "EXPLAINED") || bytes_eq word (codes "MANY") || bytes_eq word (codes "UNDECIDED")
 
--- the tokens are those of a printed reply's first line, as their first word tells
+-- the tokens are those of a printed reply's first line, as their first word shows
 abbrev pub is_reply_line : List (List ℕ) → Bool
 is_reply_line [] = false
 is_reply_line (word ∷ words) = is_reply_word word
@@ -54,7 +54,7 @@ abbrev pub knows_event : Net → List (List ℕ) → Bool
 knows_event net [] = false
 knows_event net (event ∷ words) = is_false_alarm_mark event || not (is_none (place_of event net.event_names))
 
--- The first code of a step's line, where so many lines may still come. A counted line has a word, so code 2 is for more than two, or for the mark alone.
+-- The first code of a step's line, where `left` lines may still come. A counted line has a word, so code 2 is for more than two, or for the mark alone.
 abbrev pub step_code : Net → ℕ → List (List ℕ) → Option ℕ
 step_code net left words =
     if nat_le left 0 then Some 4
@@ -67,7 +67,7 @@ step_code net left words =
 abbrev pub run_fault_at : ℕ → Option ℕ → Option RunFault
 run_fault_at number code = option_map (λ k. record { line = number; code = k }) code
 
--- the first fault of the lines after the header, where so many may still come
+-- the first fault of the lines after the header, where `left` may still come
 abbrev pub first_fault_in : Net → ℕ → List NumberedLine → Option RunFault
 first_fault_in net left [] = None
 first_fault_in net left (line ∷ lines) = option_or (run_fault_at line.number (step_code net left (tokens_of line.text))) (first_fault_in net (left - 1) lines)
@@ -76,7 +76,7 @@ first_fault_in net left (line ∷ lines) = option_or (run_fault_at line.number (
 abbrev pub shortage : ℕ → ℕ → ℕ → Option RunFault
 shortage end stated found = if nat_lt found stated then Some (record { line = end; code = 4 }) else None
 
--- the first fault of a text whose header stands on line `number` and states so many steps, if any; line `end` is its last
+-- the first fault of a text whose header stands on line `number` and states this number of steps, if any; line `end` is its last
 abbrev pub fault_of_steps : Net → ℕ → ℕ → Option ℕ → List NumberedLine → Option RunFault
 fault_of_steps net end number None steps = Some (record { line = number; code = 1 })
 fault_of_steps net end number (Some stated) steps = option_or (first_fault_in net stated steps) (shortage end stated (length steps))
@@ -109,7 +109,7 @@ after_header (header ∷ steps) = steps
 abbrev pub run_of : Net → List ℕ → List RunStep
 run_of net bytes = steps_of net (after_header (after_reply_line (counted_lines 35 bytes)))
 
--- A refusal for a fault tells this one.
+-- A refusal for a fault has this one.
 abbrev pub TellsFault : Option RunFault → RunRefusal → Type 0
 TellsFault fault (Fault told) = fault ≡ Some told
 TellsFault fault Memory = ⊤

@@ -1,4 +1,4 @@
--- What tracing a run tells: that the network can perform it, or the first event that it can't.
+-- The result of tracing a run: that the network can perform it, or the first event that it can't.
 use Rattle.std.specs.Prelude.{◌≡◌, Bool, false, ℕ, ◌-◌, ◌≤◌, List, filter_map, length, take, Option, Some, None}
 use Rattle.std.specs.Option.{option_map_or}
 use Rattle.des_net.specs.Network.{Net, is_fault}
@@ -28,7 +28,7 @@ pub record IsStuckAt (net : Net) (steps : List RunStep) (at : ℕ) : Type 0 wher
   pub before : IsRun net (word_of (take (at - 1) steps))
   pub stuck : IsRun net (word_of (take at steps)) → ⊥
 
--- what each answer of a trace means: the events are a run with so many faults, or the place is the first at which they aren't one
+-- what each answer of a trace means: the events are a run with this many faults, or the place is the first at which they aren't one
 abbrev pub IsTraced : Net → List RunStep → Traced → Type 0
 IsTraced net steps (Ran faults) = IsRun net (word_of steps) × (faults ≡ fault_count net (word_of steps))
 IsTraced net steps (Stuck at) = IsStuckAt net steps at

@@ -15,17 +15,17 @@ pub fn least_is_one()
     ensures { LeastIsOne }
 {}
 
-/// Where nothing explains a log, no number of faults is least, and there aren't many.
+/// If nothing explains a log, no number of faults is least, and there aren't many.
 pub fn absent_excludes()
     ensures { AbsentExcludes }
 {}
 
-/// A least number of faults is above 255 where each explanation has more.
+/// A least number of faults is above 255 if each explanation has more.
 pub fn many_is_above()
     ensures { ManyIsAbove }
 {}
 
-/// A word and an order of the alarms explain a log exactly where the test says so.
+/// A word and an order of the alarms explain a log exactly if the test says so.
 pub fn explains_decides()
     ensures { ExplainsDecides }
 {}
@@ -35,7 +35,7 @@ pub fn replies_are_unique()
     ensures { RepliesAreUnique }
 {}
 
-/// A run is accepted exactly where it is well matched, and its events explain the log with its alarms.
+/// A run is accepted exactly if it is well matched, and its events explain the log with its alarms.
 pub fn accepted_explains()
     ensures { AcceptedExplains }
 {}

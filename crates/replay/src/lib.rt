@@ -3,7 +3,7 @@
 //! A run is a list of steps: events, where they can be seen with the name of the alarm that they are matched to, and alarms that are
 //! set aside as false. `trace` tells whether the composed components can perform its events, or else the first one that they
 //! can't: `specs/Traced.antt` says what that means. `replay`
-//! tells whether it explains a log within so many pieces, or else what is wrong with it first: `specs/Explanation.antt` says
+//! tells whether it explains a log within a number of pieces, or else what is wrong with it first: `specs/Explanation.antt` says
 //! what an explanation is, and `specs/Replayed.antt` what each answer means.
 #![tactic(auto)]
 

@@ -13,7 +13,7 @@ use des_base::{Memory, Name};
 use des_net::Network;
 use log_order::{AlarmLog, has_label};
 
-// Gives the alarm of this name its place, where it is there, may stand for the label and has none: then true, and else false.
+// Gives the alarm of this name its place, if it is there, may stand for the label and has none yet. Returns whether it did.
 fn place_alarm(
     placing: &mut Placing,
     log: &AlarmLog,
@@ -34,7 +34,7 @@ fn place_alarm(
     Ok(true)
 }
 
-// Gives the alarm of this name its place, where it is there, is doubtful and has none: then true, and else false.
+// Gives the alarm of this name its place, if it is there, is doubtful and has none yet. Returns whether it did.
 fn place_alone(placing: &mut Placing, log: &AlarmLog, name: &Name) -> Result<bool, Memory>
     requires { placing.old.alarms ≡ length log.now.alarms }
     ensures suits { IfOk result (λ suits. suits ≡ suits_alone log.now placing.old.order name.now) }
@@ -50,7 +50,7 @@ fn place_alone(placing: &mut Placing, log: &AlarmLog, name: &Name) -> Result<boo
     Ok(true)
 }
 
-// Gives the step's alarm its place, where the step's event can be seen, or it has none: true where the alarm suits it, and else false.
+// Gives the step's alarm its place if it suits the step. Returns whether it does; an event that can't be seen and has no alarm suits too.
 fn place_step(
     placing: &mut Placing,
     net: &Network,
@@ -72,7 +72,8 @@ fn place_step(
     }
 }
 
-/// Gives the alarms of the steps their places, up to the first step whose alarm doesn't suit its event: its place, counted from 1.
+/// Gives the alarms of the steps their places, up to the first step whose alarm doesn't suit its event. Returns the place of that
+/// step, counted from 1.
 pub fn place_alarms(
     placing: &mut Placing,
     net: &Network,

@@ -28,7 +28,7 @@ impl Model for Placing {
 }
 
 impl Placing {
-    /// None of so many alarms has a place.
+    /// None of `alarms` alarms has a place.
     pub fn new(alloc: Global, alarms: u32) -> Result<Self, Memory>
         ensures { IfOk result (λ placed. placed ≡ none_placed alarms) }
     {

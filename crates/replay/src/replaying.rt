@@ -15,7 +15,7 @@ use des_net::Network;
 use log_order::AlarmLog;
 use std::alloc::Global;
 
-/// What replaying a run against a log tells: that it explains the log, or the first of the other answers that holds.
+/// The result of replaying a run against a log: it explains the log, or the first of the other answers that holds.
 #[derive(Clone, Copy)]
 pub enum Replayed {
     /// The run explains the log. The faults are the places with a fault event, and the false alarms.

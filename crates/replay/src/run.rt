@@ -12,7 +12,7 @@ const STEPS: usize = 4_000_000;
 /// A step of a run as it was written down.
 #[derive(Drop)]
 pub enum RunStep {
-    /// An event, and the name of the alarm that it is matched to, where it has one.
+    /// An event, and the name of the alarm that it is matched to, if it has one.
     Happens { event: EventId, alarm: Option<Name> },
     /// The name of an alarm that is false: it stands for no event.
     Dropped { alarm: Name },

@@ -29,7 +29,7 @@ pub struct RunFault {
 pub enum RunRefusal {
     /// The text has a fault.
     Fault(RunFault),
-    /// Want of memory.
+    /// Memory ran out.
     Memory,
 }
 
@@ -156,7 +156,7 @@ fn read_steps(
     Ok(run)
 }
 
-// The step of a line, where so many steps may still come.
+// The step of a line, where `left` steps may still come.
 fn read_step(alloc: Global, net: &Network, left: u64, line: Line<'_>) -> Result<RunStep, RunRefusal>
     ensures step { IfOk result (λ step. step_of net.now (tokens_of line.entry.text.now) ≡ Some step) }
     ensures known { IfOk result (λ step. IfSome (event_of step) (λ e. e < length net.now.events)) }
@@ -229,7 +229,7 @@ fn lone_event<'a>(event: &'a [u8]) -> Option<StepWords<'a>>
     Some(StepWords { event, alarm: None })
 }
 
-// The name of an alarm, where there is one, on the line of this number.
+// The name of an alarm, if there is one, on the line of this number.
 fn read_alarm(alloc: Global, line: u32, text: Option<&[u8]>) -> Result<Option<Name>, RunRefusal>
     ensures alarm { IfOk result (λ alarm. alarm ≡ option_copied text.entry) }
     ensures name { OnOk result (list_all is_name_text (option_to_list (option_copied text.entry)) ≡ true) }

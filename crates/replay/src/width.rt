@@ -61,7 +61,7 @@ fn pieces_of(alloc: Global, net: &Network, events: &[EventId]) -> Result<u32, Me
     Ok(pieces)
 }
 
-// Puts an event with these parts into the present piece, or where it can't be there into the next one, and tells which is present then.
+// Puts an event with these parts into the present piece, or if it can't be there into the next one, and returns which is present then.
 fn take_event(last: &mut Vec<u32>, parts: &[Part], pieces: u32) -> u32
     requires known { All (λ part. part.comp < length last.old.items) parts.now }
     requires few { pieces ≤ 4000000 }

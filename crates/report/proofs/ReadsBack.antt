@@ -59,7 +59,7 @@ printable_named net steps whole h = are_named net steps whole.event_names whole.
 pub printed_runs_read_back : PrintedRunsReadBack
 printed_runs_read_back net steps whole h = run_alone net steps (printable_named net steps whole h) h.few
 
--- ---- the replies that tell a run
+-- ---- the replies that have a run
 
 explained_word : IsWord (codes "EXPLAINED")
 explained_word = record { some = omega arith; bytes = refl }

@@ -30,12 +30,12 @@ pub record IsRunText (net : Net) (steps : List RunStep) (text : List ℕ) : Type
 abbrev pub PrintedRunsReadBack : Type 0
 PrintedRunsReadBack = (net : Net) (steps : List RunStep) → IsDraft net → IsPrintable net steps → IsRunText net steps (text_of_run net steps)
 
--- A reply that tells a run is a run text as it stands.
+-- A reply that has a run is a run text as it stands.
 abbrev pub RepliesReadBack : Type 0
 RepliesReadBack =
     (net : Net) (n : ℕ) (found : Found) → IsDraft net → IfSome (told_run found) (λ best. IsPrintable net best.run → IsRunText net best.run (text_of_found net n found))
 
--- the steps that an answer tells, or none
+-- the steps of the run that an answer has, or none
 abbrev pub told_steps : Found → List RunStep
 told_steps found = option_map_or (λ best. best.run) (told_run found) []
 
@@ -43,6 +43,6 @@ told_steps found = option_map_or (λ best. best.run) (told_run found) []
 abbrev pub RepliesAreShort : Type 0
 RepliesAreShort = (net : Net) (n : ℕ) (found : Found) → IsDraft net → HasAlarmNames (told_steps found) → length (text_of_found net n found) ≤ 130 * length (told_steps found) + 209
 
--- A reply that tells a run is no longer than a run text may be.
+-- A reply that has a run is no longer than a run text may be.
 abbrev pub RepliesFit : Type 0
 RepliesFit = (net : Net) (n : ℕ) (found : Found) → IsDraft net → IfSome (told_run found) (λ best. IsPrintable net best.run → length (text_of_found net n found) ≤ 536870912)

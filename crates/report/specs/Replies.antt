@@ -37,7 +37,7 @@ abbrev pub text_of_traced : Traced → List ℕ
 text_of_traced (Ran faults) = line_with_number (codes "RAN ") faults
 text_of_traced (Stuck at) = line_with_number (codes "REJECTED STUCK ") at
 
--- alarms are told by their names
+-- alarms are printed by their names
 abbrev pub text_of_replayed : List (List ℕ) → Replayed → List ℕ
 text_of_replayed names (Accepted faults) = line_with_number (codes "ACCEPTED ") faults
 text_of_replayed names (AtEvent at) = line_with_number (codes "REJECTED STUCK ") at
@@ -85,14 +85,14 @@ text_of_found net n Absent = line_with_number (codes "NONE ") n
 text_of_found net n (Many best) = codes "MANY 255\n" ++ text_of_run net best.run
 text_of_found net n (Undecided lo best) = text_of_bounds net lo best
 
--- the events of the run that is told, if one is, are the network's
+-- the events of the run that is printed, if one is, are the network's
 abbrev pub EventsKnown : Net → Found → Type 0
 EventsKnown net (Explained best) = All (λ e. e < length net.events) (word_of best.run)
 EventsKnown net Absent = ⊤
 EventsKnown net (Many best) = All (λ e. e < length net.events) (word_of best.run)
 EventsKnown net (Undecided lo best) = IfSome best (λ known. All (λ e. e < length net.events) (word_of known.run))
 
--- the run that is told, if one is
+-- the run that is printed, if one is
 abbrev pub told_run : Found → Option Best
 told_run (Explained best) = Some best
 told_run Absent = None
@@ -111,7 +111,7 @@ text_of_twin net n (Ambiguous faulty healthy) = line_with_number (codes "AMBIGUO
 text_of_twin net n Clear = line_with_number (codes "CLEAR ") n
 text_of_twin net n NotTested = codes "UNDECIDED\n"
 
--- the events of the runs that are told, if they are, are the network's
+-- the events of the runs that are printed, if they are, are the network's
 abbrev pub TwinEventsKnown : Net → Twin → Type 0
 TwinEventsKnown net (Ambiguous faulty healthy) = All (λ e. e < length net.events) (word_of faulty) × All (λ e. e < length net.events) (word_of healthy)
 TwinEventsKnown net Clear = ⊤
@@ -131,7 +131,7 @@ text_of_cheap net n NotPriced = line_with_number (codes "NONE ") n
 text_of_cheap net n (Dear run) = codes "DEAR 1000\n" ++ text_of_run net run
 text_of_cheap net n (NotWeighed lo best) = text_of_totals net lo best
 
--- the run that is told, if one is
+-- the run that is printed, if one is
 abbrev pub cheap_run : Cheap → Option (List RunStep)
 cheap_run (Cheapest priced) = Some priced.run
 cheap_run NotPriced = None
@@ -139,7 +139,7 @@ cheap_run (Dear run) = Some run
 cheap_run (NotWeighed lo None) = None
 cheap_run (NotWeighed lo (Some priced)) = Some priced.run
 
--- the events of the run that is told, if one is, are the network's
+-- the events of the run that is printed, if one is, are the network's
 abbrev pub CheapEventsKnown : Net → Cheap → Type 0
 CheapEventsKnown net (Cheapest priced) = All (λ e. e < length net.events) (word_of priced.run)
 CheapEventsKnown net NotPriced = ⊤

@@ -13,7 +13,7 @@ use des_net::Network;
 /// Appends what was found of the least total cost within n steps.
 ///
 /// It is `CHEAPEST` and that total, `NONE` and n, `DEAR 1000`, or `UNDECIDED`, the total below which nothing explains and that of
-/// the run that is known, or `-` where none is. Where a run is known it follows.
+/// the run that is known, or `-` if none is. If a run is known, it follows.
 pub fn print_cheap(cheap: &Cheap, net: &Network, n: u32, out: &mut Vec<u8>) -> Result<(), Memory>
     requires { CheapEventsKnown net.now cheap.now }
     ensures ok { OnOk result (out.new.items ≡ out.old.items ++ text_of_cheap net.now n cheap.now) }
@@ -24,7 +24,7 @@ pub fn print_cheap(cheap: &Cheap, net: &Network, n: u32, out: &mut Vec<u8>) -> R
     whole_or_nothing(pushed, before, out)
 }
 
-// The same, but where memory is wanting some of it may be there.
+// The same, but if memory runs out some of it may be there.
 fn push_cheap(cheap: &Cheap, net: &Network, n: u32, out: &mut Vec<u8>) -> Result<(), Memory>
     requires { CheapEventsKnown net.now cheap.now }
     ensures ok { OnOk result (out.new.items ≡ out.old.items ++ text_of_cheap net.now n cheap.now) }
@@ -44,7 +44,7 @@ fn push_cheap(cheap: &Cheap, net: &Network, n: u32, out: &mut Vec<u8>) -> Result
     }
 }
 
-// Appends what is known where the budget was spent.
+// Appends what is known if the budget was spent.
 fn push_undecided(
     lo: u32,
     best: &Option<Priced>,

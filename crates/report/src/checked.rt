@@ -1,4 +1,4 @@
-// The text of what checking a proof tells.
+// The text of the result of checking a proof.
 ghost use Rattle.std.specs.Prelude.{◌≡◌, ◌++◌, OnErr, OnOk};
 ghost use Rattle.des_base.specs.Lists.{Extends};
 ghost use Rattle.report.specs.Replies.{text_of_checked};
@@ -7,7 +7,7 @@ use crate::pieces::{push_placed, push_text, whole_or_nothing};
 use des_base::Memory;
 use proof_ledger::Checked;
 
-/// Appends what checking a proof tells: `VERIFIED`, or `REJECTED`, the line of the first step that doesn't derive and the kind
+/// Appends the result of checking a proof: `VERIFIED`, or `REJECTED`, the line of the first step that doesn't derive and the kind
 /// of its fault; line 0 and kind 4 where all steps derive and none has the empty clause.
 pub fn print_checked(checked: &Checked, out: &mut Vec<u8>) -> Result<(), Memory>
     ensures ok { OnOk result (out.new.items ≡ out.old.items ++ text_of_checked checked.now) }
@@ -18,7 +18,7 @@ pub fn print_checked(checked: &Checked, out: &mut Vec<u8>) -> Result<(), Memory>
     whole_or_nothing(pushed, before, out)
 }
 
-// The same, but where memory is wanting some of it may be there.
+// The same, but if memory runs out some of it may be there.
 fn push_checked(checked: &Checked, out: &mut Vec<u8>) -> Result<(), Memory>
     ensures ok { OnOk result (out.new.items ≡ out.old.items ++ text_of_checked checked.now) }
     ensures kept { Extends out.old.items out.new.items }

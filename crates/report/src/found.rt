@@ -14,7 +14,7 @@ use std::alloc::Global;
 /// Appends what was found of the least number of faults within n steps.
 ///
 /// It is `EXPLAINED` and that number, `NONE` and n, `MANY 255`, or `UNDECIDED`, the number that is known to be needed and that
-/// of the run that is known, or `-` where none is. Where a run is known it follows.
+/// of the run that is known, or `-` if none is. If a run is known, it follows.
 pub fn print_found(found: &Found, net: &Network, n: u32, out: &mut Vec<u8>) -> Result<(), Memory>
     requires { EventsKnown net.now found.now }
     ensures ok { OnOk result (out.new.items ≡ out.old.items ++ text_of_found net.now n found.now) }
@@ -55,7 +55,7 @@ fn push_found(found: &Found, net: &Network, n: u32, out: &mut Vec<u8>) -> Result
     }
 }
 
-// Appends what is known where the budget was spent.
+// Appends what is known if the budget was spent.
 fn push_undecided(
     lo: u32,
     best: &Option<Best>,

@@ -2,13 +2,13 @@
 ghost use Rattle.report.specs.ReadBack.{PrintedRunsReadBack, RepliesReadBack, RepliesFit};
 ghost use Rattle.report.specs.VerdictTexts.{RunsFit};
 
-/// A printed run reads back as that run, where its events are the network's, its alarms have names, and it has no more steps
+/// A printed run reads back as that run, if its events are the network's, its alarms have names, and it has no more steps
 /// than a run text may have.
 pub fn runs_read_back()
     ensures { PrintedRunsReadBack }
 {}
 
-/// So does a reply that tells a run, as it stands.
+/// So does a reply that has a run, as it stands.
 pub fn replies_read_back()
     ensures { RepliesReadBack }
 {}
@@ -18,7 +18,7 @@ pub fn replies_fit()
     ensures { RepliesFit }
 {}
 
-/// A printed run is no longer than a run text may be either, where its alarms have names and it has no more steps than such a text.
+/// A printed run is no longer than a run text may be either, if its alarms have names and it has no more steps than such a text.
 pub fn runs_fit()
     ensures { RunsFit }
 {}

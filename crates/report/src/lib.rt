@@ -1,9 +1,9 @@
 //! The texts of replies.
 //!
-//! A reply tells what was found, each part of it on a line that ends with a line feed: a word that says which answer it is,
-//! and then numbers and names. `specs/Replies.antt` says the text of each answer. Each printer appends it whole or, where
-//! memory is wanting, appends nothing. `specs/VerdictTexts.antt` has those of verdicts on fault events. A printed run reads back as that run, and so does a reply that tells one
-//! (`specs/ReadBack.antt`).
+//! A reply tells what was found, each part of it on a line that ends with a line feed: a word that says which answer it
+//! is, and then numbers and names. `specs/Replies.antt` says the text of each answer. Each printer appends it whole or,
+//! if memory runs out, appends nothing. `specs/VerdictTexts.antt` has those of verdicts on fault events. A printed run
+//! reads back as that run, and so does a reply that has one (`specs/ReadBack.antt`).
 #![tactic(auto)]
 
 mod cheap;

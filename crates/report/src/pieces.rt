@@ -1,4 +1,4 @@
-// The pieces of lines. Where memory is wanting, some of what is to be appended may be there.
+// The pieces of lines. If memory runs out, some of what is to be appended may be there.
 ghost use Rattle.std.specs.Prelude.{◌≡◌, ◌++◌, take, OnErr, OnOk};
 ghost use Rattle.des_base.specs.Lists.{Extends};
 ghost use Rattle.report.specs.Replies.{named, paired};
@@ -55,7 +55,7 @@ pub fn push_paired(words: &str, first: &str, second: &str, out: &mut Vec<u8>) ->
     push_named(" ", second, out)
 }
 
-/// Hands on how it went. Where memory was wanting, what stands behind the first `before` bytes is cut off.
+/// Hands on the outcome. If memory ran out, what stands behind the first `before` bytes is cut off.
 pub fn whole_or_nothing(
     pushed: Result<(), Memory>,
     before: usize,

@@ -1,4 +1,4 @@
-// The text of what replaying a run tells.
+// The text of the result of replaying a run.
 ghost use Rattle.std.specs.Prelude.{◌≡◌, ◌<◌, ◌++◌, [], length, slice_index_or, OnErr, OnOk};
 ghost use Rattle.log_order.specs.Adding.{names_of};
 ghost use Rattle.replay.specs.Replayed.{NamesKnown};
@@ -10,7 +10,7 @@ use des_base::Memory;
 use log_order::AlarmLog;
 use replay::Replayed;
 
-/// Appends what replaying a run against the log tells: `ACCEPTED` and the number of its faults, or `REJECTED` and what is wrong
+/// Appends the result of replaying a run against the log: `ACCEPTED` and the number of its faults, or `REJECTED` and what is wrong
 /// with it first.
 ///
 /// That is `STUCK` or `ALARM` and the place of an event, `MISSING` and the name of an alarm, `ORDER` and the names of two, or
@@ -25,7 +25,7 @@ pub fn print_replayed(replayed: &Replayed, log: &AlarmLog, out: &mut Vec<u8>) ->
     whole_or_nothing(pushed, before, out)
 }
 
-// The same, but where memory is wanting some of it may be there.
+// The same, but if memory runs out some of it may be there.
 fn push_replayed(replayed: &Replayed, log: &AlarmLog, out: &mut Vec<u8>) -> Result<(), Memory>
     requires { NamesKnown (length log.now.alarms) replayed.now }
     ensures ok { OnOk result (out.new.items ≡ out.old.items ++ text_of_replayed (names_of log.now.alarms) replayed.now) }

@@ -21,7 +21,7 @@ pub fn print_run(run: &Run, net: &Network, out: &mut Vec<u8>) -> Result<(), Memo
     whole_or_nothing(pushed, before, out)
 }
 
-/// The same as [`print_run`], but where memory is wanting some of it may be there.
+/// The same as [`print_run`], but if memory runs out some of it may be there.
 pub fn push_run(run: &Run, net: &Network, out: &mut Vec<u8>) -> Result<(), Memory>
     requires { All (λ e. e < length net.now.events) (word_of run.now) }
     ensures ok { OnOk result (out.new.items ≡ out.old.items ++ text_of_run net.now run.now) }
@@ -78,7 +78,7 @@ pub fn name_of(net: &Network, event: EventId) -> &str
     net.event_name(event).as_str()
 }
 
-// Appends a space and the name of the alarm, where there is one.
+// Appends a space and the name of the alarm, if there is one.
 fn push_alarm(alarm: &Option<Name>, out: &mut Vec<u8>) -> Result<(), Memory>
     ensures ok { OnOk result (out.new.items ≡ out.old.items ++ text_of_alarm alarm.now) }
     ensures kept { Extends out.old.items out.new.items }

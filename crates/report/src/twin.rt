@@ -25,7 +25,7 @@ pub fn print_twin(twin: &Twin, net: &Network, n: u32, out: &mut Vec<u8>) -> Resu
     whole_or_nothing(pushed, before, out)
 }
 
-// The same, but where memory is wanting some of it may be there.
+// The same, but if memory runs out some of it may be there.
 fn push_twin(twin: &Twin, net: &Network, n: u32, out: &mut Vec<u8>) -> Result<(), Memory>
     requires { TwinEventsKnown net.now twin.now }
     ensures ok { OnOk result (out.new.items ≡ out.old.items ++ text_of_twin net.now n twin.now) }

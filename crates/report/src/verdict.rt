@@ -9,8 +9,8 @@ use answers::Verdict;
 use des_base::{EventId, Memory};
 use des_net::Network;
 
-/// Appends what all best explanations say of a fault event: `CERTAIN`, `EXCLUDED` or `POSSIBLE`, or `OPEN` where the budget was
-/// spent, and the name of the event. Where it is possible, the run that shows it follows.
+/// Appends what all best explanations say of a fault event: `CERTAIN`, `EXCLUDED` or `POSSIBLE`, or `OPEN` if the budget was
+/// spent, and the name of the event. If it is possible, the run that shows it follows.
 pub fn print_verdict(
     verdict: &Verdict,
     event: EventId,
@@ -27,7 +27,7 @@ pub fn print_verdict(
     whole_or_nothing(pushed, before, out)
 }
 
-// The same, but where memory is wanting some of it may be there.
+// The same, but if memory runs out some of it may be there.
 fn push_verdict(
     verdict: &Verdict,
     event: EventId,

@@ -63,7 +63,7 @@ signed_true : (a b : Bool) → a ≡ b → same_sign a b ≡ true
 signed_true true b h = sym h
 signed_true false b h = ap not (sym h)
 
--- what a question assumes is true where just the guards are
+-- what a question assumes is true where the guards are true and nothing else is
 pub guards_true : (names : List (ℕ × Meaning)) (net : Net) (log : Log) (n : ℕ) (bound : Option ℕ) (given : ℕ → Bool) (assumed : List Lit) → ReadsAs names assumed (assumption_literals net log n bound) →
     AllLiteralsTrue (assignment_by names is_guard given) assumed
 guards_true names net log n bound given assumed reads = (literals_by_name names (assignment_by names is_guard given) is_guard (assignments_match names is_guard given) assumed (assumption_literals net log n bound) reads).1

@@ -77,7 +77,7 @@ module _ (steps : CodedSteps) (code : CodedLog) (counter : CounterState) (clause
       from (inr (inl of_log)) = Contains-append_left clauses more clause ((are.same clause).1 (inr (inl of_log)))
       from (inr (inr of_counter)) = count_part (Contains-append_cases (counter_clauses counter) more clause of_counter)
 
--- with the clauses of an input more they are those of the longer counter
+-- with the clauses of a further input they are those of the longer counter
 input_more : (steps : CodedSteps) (code : CodedLog) (counter : CounterState) (clauses : List Clause) (input : Lit) (first : ℕ) → IsFull counter → AreClausesOf steps code counter clauses → AreClausesOf steps code (with_input counter input first) (clauses ++ input_clauses counter input first)
 input_more steps code counter clauses input first full are = record { stepped = are.stepped; written = are.written; step_code = are.step_code; log_code = are.log_code; same = same }
   where

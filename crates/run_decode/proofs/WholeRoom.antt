@@ -7,7 +7,7 @@ use Rattle.log_encode.specs.CodedLog.{CodedLog, addition_width}
 use Rattle.prop_core.specs.declared.lit.Lit.{Lit}
 use Rattle.run_decode.specs.WholeNaming.{false_input, counter_after, counted_after, RoomIsFree}
 
--- an input more, where there is one
+-- a further input, where there is one
 alike : (counter : CounterState) (more : ℕ) (doubtful : Bool) (input : Lit) (first : ℕ) →
     AreAlike (if doubtful then with_input counter input first else counter) (if doubtful then with_input (with_room counter more) input first else with_room counter more)
 alike counter more true input first = record { inputs = refl; columns = refl }

@@ -32,7 +32,7 @@ IsNamedClause net log n named = IsNamedStep net n named ⊎ (IsNamedLog net log 
 abbrev pub IsInstance : Net → Log → ℕ → List (ℕ × Meaning) → Clause → Type 0
 IsInstance net log n names clause = (named : List NamedLiteral) × IsNamedClause net log n named × ReadsAs names clause named
 
--- that of so many inputs at most b are true; of no inputs there is nothing to say
+-- that at most b of this many inputs are true; of no inputs there is nothing to say
 abbrev pub at_most : ℕ → ℕ → List NamedLiteral
 at_most zero b = []
 at_most (suc m) b = no (reaches (suc m) (suc b)) ∷ []

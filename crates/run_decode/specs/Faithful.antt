@@ -24,7 +24,7 @@ pub record IsExplainedWithin (net : Net) (log : Log) (n : ℕ) (bound : Option �
   pub explains : Explains net log n word order
   pub within : IsWithin bound (faults_of net word order)
 
--- Clauses and assumptions can be true together just where something explains the log within the bound. Neither is contradictory by itself.
+-- Clauses and assumptions can be true together exactly if something explains the log within the bound. Neither is contradictory by itself.
 pub record IsFaithful (clauses : List Clause) (assumed : List Lit) (net : Net) (log : Log) (n : ℕ) (bound : Option ℕ) : Type 0 where
   -- what explains within the bound has an assignment
   pub complete : (word : List ℕ) (order : List Entry) → Explains net log n word order → IsWithin bound (faults_of net word order) → (assignment : ℕ → Bool) × MakesTrue assignment clauses assumed

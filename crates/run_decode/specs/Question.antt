@@ -11,7 +11,7 @@ use Rattle.prop_core.specs.declared.lit.Lit.{Lit}
 use Rattle.run_clauses.specs.StepCodes.{IsNamedStep}
 use Rattle.run_decode.specs.Drawn.{fault_inputs, assumption_literals}
 
--- the clauses of the steps, of the log, and of so many columns of the counter
+-- the clauses of the steps, of the log, and of `columns` columns of the counter
 abbrev pub IsNamedQuestion : Net → Log → ℕ → ℕ → List NamedLiteral → Type 0
 IsNamedQuestion net log n columns named = IsNamedStep net n named ⊎ (IsNamedLog net log n named ⊎ IsNamedCount (fault_inputs net log n) columns named)
 

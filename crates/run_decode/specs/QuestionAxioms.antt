@@ -45,7 +45,7 @@ alone_built steps log = record {
   axioms = written_by (code_meanings steps) (StepsBelow steps.net steps.steps) ++ log.clauses;
 }
 
--- a column more, on the next variables
+-- a further column, on the next variables
 abbrev pub column_built : BuiltQuestion → BuiltQuestion
 column_built question = record question {
   counter = with_column question.counter question.vars;
@@ -53,12 +53,12 @@ column_built question = record question {
   axioms = question.axioms ++ next_clauses question.counter question.vars;
 }
 
--- the question with so many columns of its counter, each on the next variables and behind the axioms before it
+-- the question with this many columns of its counter, each on the next variables and behind the axioms before it
 abbrev pub question_built : Net → Log → ℕ → ℕ → BuiltQuestion
 question_built net log n zero = alone_built (steps_built net n) (log_built net log n)
 question_built net log n (suc columns) = column_built (question_built net log n columns)
 
--- the axioms of a question whose counter has so many columns
+-- the axioms of a question whose counter has this many columns
 abbrev pub question_axioms : Net → Log → ℕ → ℕ → List Clause
 question_axioms net log n columns = (question_built net log n columns).axioms
 
@@ -90,7 +90,7 @@ roomless question = record question { counter = record { inputs = question.count
 
 -- ---- laws
 
--- It is so once steps and log are coded, and a counter over their inputs has no columns:
+-- This holds once steps and log are coded, and a counter over their inputs has no columns:
 abbrev pub QuestionBegins : Type 0
 QuestionBegins = (net : Net) (log : Log) (n : ℕ) (code : CodedLog) (stepped written : List Clause) (inputs : List Lit) →
     AppendsSteps net n (code_meanings (steps_built net n)) [] stepped → IsCodedLog code → record { code = code; clauses = written } ≡ log_built net log n → AreInputs (steps_built net n) code inputs →

@@ -65,7 +65,7 @@ PartsAreAssumed = (net : Net) (log : Log) (n : ℕ) (bound : Option ℕ) (meanin
     IsReadAmong meanings guards (guard_literals net log) → IsReadAmong meanings bounds (bound_literals net log n bound) →
     ReadsAs meanings (guards ++ bounds) (assumption_literals net log n bound)
 
--- the literal for at most so many, by a counter of the faults, is the bound
+-- the literal for at most k, by a counter of the faults, is the bound
 abbrev pub BoundIsRead : Type 0
 BoundIsRead = (net : Net) (log : Log) (n : ℕ) (meanings : List (ℕ × Meaning)) (state : CounterState) (k : ℕ) → IsCounter state → IsNamedBy meanings (fault_inputs net log n) state → k < length state.columns →
     ReadsAs meanings (bound_literal state k ∷ []) (bound_literals net log n (Some k))
@@ -79,6 +79,6 @@ pub record IsAsWithoutNames (net : Net) (log : Log) (n : ℕ) : Type 0 where
   pub pieces : (value : Meaning → Bool) (alarms : List ℕ) → decoded net log value alarms n ≡ decoded net (without_names log) value alarms n
   pub orders : (value : Meaning → Bool) (alarms : List ℕ) → decoded_order net log value alarms n ≡ decoded_order net (without_names log) value alarms n
 
--- So it is for each network, log and number of steps.
+-- This holds for each network, log and number of steps.
 abbrev pub AlarmNamesDontMatter : Type 0
 AlarmNamesDontMatter = (net : Net) (log : Log) (n : ℕ) → IsAsWithoutNames net log n

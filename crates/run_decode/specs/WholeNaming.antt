@@ -104,13 +104,13 @@ abbrev pub ClausesBegin : Type 0
 ClausesBegin = (steps : CodedSteps) (code : CodedLog) (counter : CounterState) (stepped written : List Clause) → counter.columns ≡ [] →
     IsCode (code_meanings steps) (IsNamedStep steps.net steps.steps) stepped → IsWritten code written → AreClausesOf steps code counter (stepped ++ written)
 
--- The clauses of a draft, with those of the counter's new input, and those of a column more, come behind them.
+-- The clauses of a draft, with those of the counter's new input, and those of a further column, come behind them.
 pub record AreJoinedBy (steps : CodedSteps) (code : CodedLog) (counter : CounterState) (clauses : List Clause) : Type 0 where
   pub drafts : (addition : Addition) (draft : DraftState) → IsDraftOf code addition draft.first draft → Follows code draft →
       AreClausesOf steps (code_after code addition draft.first) (counter_after code counter addition draft.first) ((clauses ++ draft.clauses) ++ counted_after code counter addition draft.first)
   pub columns : (first : ℕ) → AreClausesOf steps code (with_column counter first) (clauses ++ next_clauses counter first)
 
--- So it is with the clauses of the three parts, where each column of the counter has a variable for each input.
+-- This holds for the clauses of the three parts, where each column of the counter has a variable for each input.
 abbrev pub ClausesGrow : Type 0
 ClausesGrow = (steps : CodedSteps) (code : CodedLog) (counter : CounterState) (clauses : List Clause) → IsFull counter → AreClausesOf steps code counter clauses → AreJoinedBy steps code counter clauses
 
@@ -123,7 +123,7 @@ pub record StaysWithRoom (steps : CodedSteps) (code : CodedLog) (counter : Count
   pub after : (addition : Addition) (first : ℕ) → AreAlike (counter_after code counter addition first) (counter_after code (with_room counter more) addition first)
   pub counted : (addition : Addition) (first : ℕ) → counted_after code (with_room counter more) addition first ≡ counted_after code counter addition first
 
--- So it is with all that is coded together, and however many inputs there is room for.
+-- This holds for all that is coded together, and however many inputs there is room for.
 abbrev pub RoomIsFree : Type 0
 RoomIsFree = (steps : CodedSteps) (code : CodedLog) (counter : CounterState) (more : ℕ) → AreCodedTogether steps code counter → StaysWithRoom steps code counter more
 

@@ -36,7 +36,7 @@ pub fn parts_are_assumed()
     ensures { PartsAreAssumed }
 {}
 
-/// A law: a counter's literal for at most so many is the bound.
+/// A law: a counter's literal for at most k inputs is the bound.
 pub fn bound_is_read()
     ensures { BoundIsRead }
 {}
@@ -63,12 +63,12 @@ pub fn together_begins()
     ensures { TogetherBegins }
 {}
 
-/// A law: so they are after an addition to the log, and after a column more.
+/// A law: they still are after an addition to the log, and after a further column.
 pub fn together_grow()
     ensures { TogetherGrow }
 {}
 
-/// A law: so they are, with the same clauses, where the counter has room for further inputs.
+/// A law: they still are, with the same clauses, if the counter has room for further inputs.
 pub fn room_is_free()
     ensures { RoomIsFree }
 {}
@@ -83,7 +83,7 @@ pub fn clauses_begin()
     ensures { ClausesBegin }
 {}
 
-/// A law: the clauses of a draft, and of a column more, are added to them.
+/// A law: the clauses of a draft, and of a further column, are added to them.
 pub fn clauses_grow()
     ensures { ClausesGrow }
 {}

@@ -1,7 +1,7 @@
 //! From the clauses of a question to runs, and back: what an assignment of the variables says of a network and its alarm log.
 //!
 //! - A *question* is, by one naming of its variables, all clauses of n steps of a network, of a log, and of some columns of a
-//!   counter of faults, fault events and false alarms. It assumes the guards of the log and, where there is a bound, the literal for at most so many faults.
+//!   counter of faults, fault events and false alarms. It assumes the guards of the log and, where there is a bound, the literal for at most that many faults.
 //! - A question is *faithful*: each explanation of the log within the bound has an assignment that makes clauses and
 //!   assumptions true, and where there is one, something explains within the bound; without the assumptions some assignment
 //!   makes the clauses true; and the assumptions don't contradict each other.

@@ -36,12 +36,12 @@ pub record IsRefutedBySeen (clauses : List Clause) (literals also : List Lit) (s
   pub refutes : Refutes (clause_numbered clauses) literals also seen (reverse hints)
   pub known : (place : ℕ) → place < length literals → is_seen seen place ≡ true → is_known_var clauses (literal_at literals place).var ≡ true
 
--- the negations of the literals that are seen among the first so many, from the last on
+-- the negations of the literals that are seen among the first places, this many of them, from the last on
 abbrev pub negated_seen : List Lit → List Bool → ℕ → Clause
 negated_seen literals seen zero = []
 negated_seen literals seen (suc place) = if is_seen seen place then negation (literal_at literals place) ∷ negated_seen literals seen place else negated_seen literals seen place
 
--- the level of the last place that is seen among the first so many, or 0
+-- the level of the last place that is seen among the first places, this many of them, or 0
 abbrev pub level_seen : List (Option ℕ) → List Bool → ℕ → ℕ
 level_seen reasons seen zero = 0
 level_seen reasons seen (suc place) = if is_seen seen place then level_at reasons place else level_seen reasons seen place

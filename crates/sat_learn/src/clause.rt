@@ -6,7 +6,7 @@ use des_base::{ListOf, Memory};
 use prop_core::Lit;
 use sat_prop::Trail;
 
-// Adds the negations of the literals that are seen among the first so many, from the last on.
+// Adds the negations of the literals that are seen among the first `count`, from the last on.
 pub fn add_negated(
     seen: &[bool],
     literals: &[Lit],
@@ -27,7 +27,7 @@ pub fn add_negated(
     Ok(())
 }
 
-// The level of the last place that is seen among the first so many.
+// The level of the last place that is seen among the first `count`.
 pub fn last_level(seen: &[bool], trail: &Trail, count: usize) -> u32
     requires seen { count ≤ length seen.now }
     requires literals { count ≤ length trail.now.literals }

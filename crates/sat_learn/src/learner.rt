@@ -20,8 +20,8 @@ use sat_prop::Trail;
 use std::alloc::Global;
 use std::marker::Model;
 
-/// A clause that derives by its hints, and the level to go back to. The last hints lead from the conflict to the clause as it was
-/// before it was shortened: so many.
+/// A clause that derives by its hints, and the level to go back to. The last `from_conflict` hints lead from the conflict to the
+/// clause as it was before it was shortened.
 #[derive(Drop)]
 pub struct Learnt {
     pub clause: ListOf<Lit>,
@@ -32,7 +32,7 @@ pub struct Learnt {
 
 /// Learns from conflicts.
 ///
-/// Its value is the number of literals that it has room for. An analysis keeps it, also where memory is wanting, so that another can follow.
+/// Its value is the number of literals that it has room for. An analysis keeps it, even if memory runs out, so that another can follow.
 #[derive(Drop)]
 pub struct Learner {
     alloc: Global,
@@ -64,7 +64,7 @@ impl Learner {
         }
     }
 
-    /// Takes memory for the literals of so many variables beforehand. Where memory is wanting, the room is as before.
+    /// Takes memory for the literals of `vars` variables beforehand. If memory runs out, the room is as before.
     pub fn grow(&mut self, vars: u32) -> Result<(), Memory>
         ensures ok { OnOk result (vars ≤ self.new) }
         ensures kept { self.old ≤ self.new }
@@ -143,7 +143,7 @@ impl Learner {
     }
 }
 
-// Makes so many places, of which none is seen.
+// Makes `count` places, none of which is seen.
 fn unsee(seen: &mut Vec<bool>, count: usize) -> Result<(), Memory>
     ensures kept { vec_capacity seen.old ≤ vec_capacity seen.new }
     ensures ok { OnOk result (seen.new.items ≡ replicate count false) }

@@ -1,7 +1,7 @@
 //! What is learnt from a conflict, with the hints by which it derives.
 //!
 //! - From a conflict the places of the trail are *seen* that its clause depends on. A place is *resolved* where the reason
-//!   of its literal comes in its stead; the hints are the conflict and the reasons, the last first.
+//!   of its literal takes its place; the hints are the conflict and the reasons, the last first.
 //! - The *learnt* clause stops at the first implication point: one literal of the present level is left. It derives, it is
 //!   false by the trail, and one level back its first literal would be forced.
 //! - What of a learnt clause follows from its other literals is resolved as well, so that it is shorter.

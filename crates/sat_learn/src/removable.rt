@@ -47,7 +47,7 @@ impl Removable {
         }
     }
 
-    // Sees to it that so many variables can be marked.
+    // Makes sure that `vars` variables can be marked.
     pub fn widen(&mut self, vars: u32) -> Result<(), Memory> {
         let count = self.marks.len().max(vars as usize);
         self.marks.resize(count, Mark::Unknown)?;
@@ -59,7 +59,7 @@ impl Removable {
         matches!(self.mark(var), Mark::Dropped | Mark::Implied)
     }
 
-    // Marks what can be dropped of the literals that are seen among the first so many.
+    // Marks what can be dropped of the literals that are seen among the first `count`.
     pub fn find(
         &mut self,
         seen: &[bool],

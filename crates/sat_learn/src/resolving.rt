@@ -36,7 +36,7 @@ pub fn see(seen: &mut [bool], trail: &Trail, clause: &[Lit], start: usize) -> us
     more
 }
 
-// Sees the reason of a place in its stead, and counts as `see` does.
+// Sees the reason of a place instead of the place, and counts as `see` does.
 pub fn resolve(
     seen: &mut [bool],
     on: &Analysed<'_>,

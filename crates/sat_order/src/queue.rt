@@ -61,7 +61,7 @@ impl Queue {
         &self.ranks
     }
 
-    // Sees to it that there is room for this many more variables.
+    // Makes sure that there is room for this many more variables.
     pub fn reserve(&mut self, vars: usize) -> Result<(), Memory>
         ensures ok { OnOk result (self.new ≡ record self.old { spare = max self.old.spare vars }) }
         ensures err { OnErr result (self.new ≡ self.old) }

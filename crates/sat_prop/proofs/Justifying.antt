@@ -88,7 +88,7 @@ forced_from cs all att literals vars l number front a h e =
       known = below_at vars at.clause l at.known among;
     }
 
--- the first so many places of a trail are one
+-- the first n places of a trail are a trail
 pub justified_take : (cs : List Clause) (att : List ℕ) (literals : List Lit) (reasons : List (Option ℕ)) (vars n : ℕ) → IsJustified cs att literals reasons vars → n ≤ length reasons → IsJustified cs att (take n literals) (take n reasons) vars
 justified_take cs att literals reasons vars n t h = record {
   same = let s = t.same in grind (arith, common_steps);

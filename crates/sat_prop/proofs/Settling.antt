@@ -86,7 +86,7 @@ settled_forced clauses literals seen watches n clause s held forced t = settled_
     let q : clause ≡ c = held_same clauses (watch_at watches n).clause clause c held h in
     record { early = inr (subst (λ (x : Clause). is_forced_by (take (seen + 1) literals) (other_literal watches n) x ≡ true) q forced); now = t })
 
--- ---- what the two literals of a clause tell
+-- ---- what the two literals of a clause show
 
 -- the other watched literal is one of the clause
 pub other_among : (t : TrailState) (watches : List Watch) (n : ℕ) (a : IsWatch t.clauses t.attached watches n) → IsWatch t.clauses t.attached watches (watch_at watches n).twin → list_any (same_literal (other_literal watches n)) a.clause ≡ true

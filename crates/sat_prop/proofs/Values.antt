@@ -73,7 +73,7 @@ values_less vars literals values l a o h = let n = a.enough in record {
       (cases_eq var l.var);
 }
 
--- the last of the first so many goes
+-- the last of the first places goes
 pub values_back : (vars : ℕ) (literals : List Lit) (values : List (Option Bool)) (place : ℕ) → place < length literals → AreValues vars (take (place + 1) literals) values → is_open (take place literals) (get_or literals place no_literal) ≡ true → (get_or literals place no_literal).var < length values
     → AreValues vars (take place literals) (slice_set values (get_or literals place no_literal).var None)
 values_back vars literals values place h a o b =

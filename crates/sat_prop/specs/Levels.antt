@@ -13,7 +13,7 @@ level_of reasons = count_by is_none reasons
 abbrev pub level_at : List (Option ℕ) → ℕ → ℕ
 level_at reasons place = level_of (take (place + 1) reasons)
 
--- the first so many places are those up to a level: the next, if there is one, is a decision
+-- the first `count` places are those up to a level: the next, if there is one, is a decision
 pub record IsUpToLevel (reasons : List (Option ℕ)) (level count : ℕ) : Type 0 where
   pub within : count ≤ length reasons
   pub decided : level_of (take count reasons) ≡ level

@@ -13,7 +13,7 @@ abbrev pub stands : List Lit → Option Clause → Standing
 stands taken None = wide
 stands taken (Some clause) = standing taken clause
 
--- of the first so many attached clauses none is false, and none has one open literal and all others false
+-- of the first `count` attached clauses none is false, and none has one open literal and all others false
 abbrev pub AreQuietBelow : List Clause → List ℕ → List Lit → ℕ → Type 0
 AreQuietBelow clauses attached taken count = (place : ℕ) → place < count → is_quiet (stands taken (clause_numbered clauses (slice_index attached place))) ≡ true
 
@@ -21,7 +21,7 @@ AreQuietBelow clauses attached taken count = (place : ℕ) → place < count →
 abbrev pub AreQuiet : List Clause → List ℕ → List Lit → Type 0
 AreQuiet clauses attached taken = AreQuietBelow clauses attached taken (length attached)
 
--- so it was just before each decision
+-- it was so just before each decision
 abbrev pub WasQuietBefore : List Clause → List ℕ → List Lit → List (Option ℕ) → Type 0
 WasQuietBefore clauses attached literals reasons = (place : ℕ) → place < length literals → reason_at reasons place ≡ None → AreQuiet clauses attached (take place literals)
 

@@ -93,7 +93,7 @@ empty = record { positive = record { first = NO_WATCH; last = NO_WATCH }; negati
 abbrev pub lists_at : List Lists → ℕ → Lists
 lists_at lists var = slice_index_or lists var empty
 
--- the lists of so many variables, all empty
+-- the lists of `count` variables, all empty
 abbrev pub no_lists : ℕ → List Lists
 no_lists count = replicate count empty
 
@@ -162,7 +162,7 @@ pub record AreWatchLists (watches : List Watch) (nexts : List (Option ℕ)) (lis
 
 -- ---- a walk along a list
 
--- the numbers that one passes from a link on, but no more than so many
+-- the numbers that one passes from a link on, but no more than this many
 abbrev pub passed_within : ℕ → List (Option ℕ) → Option ℕ → List ℕ
 passed_within zero nexts link = []
 passed_within (suc more) nexts None = []

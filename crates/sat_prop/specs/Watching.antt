@@ -40,7 +40,7 @@ pub record MakesUp (literals first : List Lit) (clause : Clause) (other : Lit) :
   pub early : (is_true first other ≡ true) ⊎ (is_forced_by first other clause ≡ true)
   pub now : is_true literals other ≡ true
 
--- Where one of the first so many literals makes the watched one false, the other makes up for it.
+-- Where one of the first `seen` literals makes the watched one false, the other makes up for it.
 abbrev pub IsSettled : List Clause → List Lit → ℕ → List Watch → ℕ → Type 0
 IsSettled clauses literals seen watches number = (place : ℕ) (clause : Clause) → place < seen → literal_at literals place ≡ negation (watch_at watches number).lit →
     clause_numbered clauses (watch_at watches number).clause ≡ Some clause → MakesUp literals (take (place + 1) literals) clause (other_literal watches number)
@@ -136,7 +136,7 @@ pub record AreTwo (clause : Clause) (first second : Lit) : Type 0 where
   pub second_among : list_any (same_literal second) clause ≡ true
   pub apart : same_literal first second ≡ false
 
--- two different literals of a clause: the first is open, and up to the place of one of the first so many literals, before which none makes
+-- two different literals of a clause: the first is open, and up to the place of one of the first `seen` literals, before which none makes
 -- the second false, all others are false
 pub record IsForcing (literals : List Lit) (clause : Clause) (seen : ℕ) (first second : Lit) : Type 0 where
   pub two : AreTwo clause first second

@@ -1,3 +1,4 @@
+// Unit propagation by watched literals, with the trail that it extends.
 ghost use Rattle.std.specs.Prelude.{◌≡◌, ◌<◌, ◌≤◌, [], length, max, true, None, OnOk, OnErr, IfSome};
 ghost use Rattle.prop_core.specs.Derivation.{clause_numbered};
 ghost use Rattle.prop_core.specs.Clauses.{is_open, HasValues};
@@ -73,7 +74,7 @@ impl Propagator {
         self.trail.grow(vars)
     }
 
-    /// Sees to it that there is room to attach this many more clauses.
+    /// Makes sure that there is room to attach this many more clauses.
     pub fn reserve_clauses(&mut self, clauses: usize) -> Result<(), Memory>
         ensures ok { OnOk result (self.new ≡ record self.old { spare = max self.old.spare clauses }) }
         ensures err { OnErr result (self.new ≡ self.old) }

@@ -18,7 +18,7 @@ pub struct RecentClause {
     pub signature: u64,
 }
 
-/// The clauses that were learnt last, the oldest first. What is read there only says where it is worth to look.
+/// The clauses that were learnt last, the oldest first. What is read there only says where it is worth looking.
 #[derive(Drop)]
 pub struct Recent {
     learnt: [RecentClause; RECENT],

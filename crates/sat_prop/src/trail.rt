@@ -1,3 +1,4 @@
+// The trail: the literals that are true, in their order, each decided or forced by a clause.
 ghost use Rattle.std.specs.Prelude.{◌≡◌, ℕ, ◌<◌, ◌≤◌, ◌+◌, ◌-◌, ◌^◌, ◌++◌, ◌∷◌, [], List, length, max, take, true, false, Some, None, Contains, slice_get, slice_set, slice_index, vec_len, vec_capacity, OnOk, OnErr, IfSome};
 ghost use Rattle.prop_core.specs.declared.lit.Lit.{Lit};
 ghost use Rattle.prop_core.specs.Derivation.{clause_numbered, unit};
@@ -81,7 +82,7 @@ impl Trail {
         Ok(())
     }
 
-    /// Sees to it that there is room to attach this many more clauses.
+    /// Makes sure that there is room to attach this many more clauses.
     pub(crate) fn reserve_clauses(&mut self, clauses: usize) -> Result<(), Memory>
         ensures ok { OnOk result (self.new ≡ record self.old { spare = max self.old.spare clauses }) }
         ensures err { OnErr result (self.new ≡ self.old) }
@@ -149,7 +150,7 @@ impl Trail {
         self.levels[self.place_of(var) as usize]
     }
 
-    /// The value of a variable: none where it is open, or is no variable of the trail.
+    /// The value of a variable: none if it is open, or is no variable of the trail.
     pub fn value(&self, var: u32) -> Option<bool>
         ensures { result ≡ trail_value self.now.literals var }
     {
@@ -159,7 +160,7 @@ impl Trail {
         self.values[var as usize]
     }
 
-    /// The clause that forced a variable's literal: none where that was decided, or the variable is open.
+    /// The clause that forced a variable's literal: none if that was decided, or the variable is open.
     pub fn reason(&self, var: u32) -> Option<ClauseId>
         ensures stands { (place : ℕ) → StandsAt self.now.literals var place → result ≡ reason_at self.now.reasons place }
         ensures absent { has_var var self.now.literals ≡ false → result ≡ None }
@@ -210,7 +211,7 @@ impl Trail {
         let _ = &self.db;
     }
 
-    /// Why each literal is true: the clause that forced it, or none where it was decided.
+    /// Why each literal is true: the clause that forced it, or none if it was decided.
     pub fn reasons(&self) -> &[Option<ClauseId>]
         ensures { result.now ≡ self.now.reasons }
     {
@@ -309,7 +310,7 @@ impl Trail {
     }
 }
 
-// Sees to it that there is room for this many literals, with the reason and the level of each, and for as many levels.
+// Makes sure that there is room for this many literals, with the reason and the level of each, and for as many levels.
 fn reserve_literals(
     literals: &mut Vec<Lit>,
     reasons: &mut Vec<Option<ClauseId>>,
@@ -331,7 +332,7 @@ fn reserve_literals(
     Ok(())
 }
 
-// Sees to it that values of so many variables can be kept.
+// Makes sure that values of `count` variables can be kept.
 fn widen(values: &mut Vec<Option<bool>>, count: usize) -> Result<(), Memory>
     ensures kept { (vars : ℕ) (literals : List Lit) → HasValues vars literals → AreValues vars literals values.old.items → AreValues vars literals values.new.items }
     ensures enough { OnOk result (count ≤ length values.new.items) }

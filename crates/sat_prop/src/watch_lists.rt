@@ -1,3 +1,4 @@
+// The watches of each literal, in lists that are linked by numbers.
 ghost use Rattle.std.specs.Prelude.{◌≡◌, ◌≢◌, ◌↔◌, ℕ, ◌+◌, ◌-◌, ◌<◌, ◌≤◌, List, ◌++◌, ◌∷◌, [], length, max, slice_set, vec_len, vec_capacity, OnOk, OnErr, IfSome, IfNone, IsTrue};
 ghost use Rattle.prop_core.specs.LiteralNumbers.{literal_number};
 ghost use Rattle.sat_prop.specs.declared.watch_lists.TheConstants.{NO_CLAUSE};
@@ -31,7 +32,7 @@ pub struct Node {
     pub next: u32,
 }
 
-/// The first and the last watch of a list, or none where it is empty.
+/// The first and the last watch of a list, or none if it is empty.
 #[derive(Clone, Copy)]
 pub struct Ends {
     pub first: u32,
@@ -45,7 +46,7 @@ pub struct Lists {
     pub negative: Ends,
 }
 
-/// How far the list of a literal has been looked at: the watch that comes before the next one, and the next one, or none where all have been.
+/// How far the list of a literal has been looked at: the watch that comes before the next one, and the next one, or none if all have been.
 #[derive(Clone, Copy)]
 pub struct Walk {
     pub lit: Lit,
@@ -102,7 +103,7 @@ impl WatchLists {
         Ok(())
     }
 
-    /// Sees to it that there is room for the watches of this many more clauses.
+    /// Makes sure that there is room for the watches of this many more clauses.
     pub fn reserve(&mut self, clauses: usize) -> Result<(), Memory>
         ensures ok { OnOk result (self.new ≡ record self.old { spare = max self.old.spare clauses }) }
         ensures err { OnErr result (self.new ≡ self.old) }
@@ -278,7 +279,7 @@ fn no_walk() -> Walk
     }
 }
 
-// Adds empty lists until there are those of so many variables, where there is room.
+// Adds empty lists until there are those of `count` variables, in room that is there.
 fn fill(lists: &mut Vec<Lists>, count: usize)
     requires more { vec_len lists.old ≤ count }
     requires room { count ≤ vec_capacity lists.old }
@@ -362,7 +363,7 @@ fn link(nodes: &mut Vec<Node>, before: u32, after: u32)
     }
 }
 
-// Takes the watch that is next in a walk out of its list. Answers the one that comes after it.
+// Takes the watch that is next in a walk out of its list. Returns the one that comes after it.
 fn unlink(nodes: &mut Vec<Node>, lists: &mut Vec<Lists>, walk: Walk) -> u32
     requires known { walk.lit.var < length lists.old.items }
     requires next { walk.next < length nodes.old.items }

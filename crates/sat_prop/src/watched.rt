@@ -22,7 +22,7 @@ use std::alloc::Global;
 use std::marker::Model;
 
 /// The clauses that are attached: with two different literals they are watched, without they are short, and looked at at
-/// level 0. The first so many literals have been looked at.
+/// level 0. The first `seen` literals have been looked at.
 #[derive(Drop)]
 pub struct Watched {
     short: Vec<ClauseId>,
@@ -59,7 +59,7 @@ impl Watched {
         }
     }
 
-    /// Sees to it that literals of so many variables can be watched.
+    /// Makes sure that literals of `vars` variables can be watched.
     pub fn grow(&mut self, vars: u32) -> Result<(), Memory>
         requires { vars ≤ VAR_LIMIT }
         ensures ok { OnOk result (self.new ≡ record self.old { lists = record self.old.lists { vars = max self.old.lists.vars vars } }) }
@@ -68,7 +68,7 @@ impl Watched {
         self.lists.grow(vars)
     }
 
-    /// Sees to it that there is room to attach this many more clauses.
+    /// Makes sure that there is room to attach this many more clauses.
     pub fn reserve(&mut self, clauses: usize) -> Result<(), Memory>
         ensures short { self.new.short ≡ self.old.short }
         ensures seen { self.new.seen ≡ self.old.seen }
@@ -84,7 +84,7 @@ impl Watched {
     }
 
     /// Watches a clause that is to be attached, or keeps it among the short ones. What becomes false of the watched literals
-    /// is looked at after this, again where need be.
+    /// is looked at after this, again if need be.
     pub fn attach(&mut self, trail: &Trail, db: &Clauses, id: ClauseId)
         requires watched { AreWatched trail.now self.old }
         requires room { 1 ≤ trail.now.spare }
@@ -204,7 +204,7 @@ impl Watched {
         subsumes_another(db, inner, outer)
     }
 
-    /// Only so many literals are left.
+    /// Only the first `len` literals are left.
     pub fn back_to(&mut self, len: u32)
         ensures { self.new ≡ record self.old { seen = min self.old.seen len } }
     {
@@ -235,7 +235,7 @@ impl Watched {
     }
 
     // Looks at the short clauses at level 0, and nowhere else: just before a decision they were neither false nor forced anything, so they
-    // are true from there on. Answers one that is false.
+    // are true from there on. Returns one that is false.
     fn propagate_short(&self, trail: &mut Trail, db: &Clauses) -> Option<ClauseId>
         requires watched { AreWatched trail.old self.now }
         requires grown { IsFront trail.old.clauses db.now.clauses }
@@ -251,7 +251,7 @@ impl Watched {
         self.propagate_each_short(trail, db)
     }
 
-    // Looks at each short clause, and makes true what it forces. Answers one that is false.
+    // Looks at each short clause, and makes true what it forces. Returns one that is false.
     fn propagate_each_short(&self, trail: &mut Trail, db: &Clauses) -> Option<ClauseId>
         requires watched { AreWatched trail.old self.now }
         requires grown { IsFront trail.old.clauses db.now.clauses }
@@ -272,7 +272,7 @@ impl Watched {
         None
     }
 
-    // Looks at each literal that hasn't been looked at. Answers a clause that is false.
+    // Looks at each literal that hasn't been looked at. Returns a clause that is false.
     fn propagate_watched(&mut self, trail: &mut Trail, db: &Clauses) -> Option<ClauseId>
         requires watched { AreWatched trail.old self.old }
         requires grown { IsFront trail.old.clauses db.now.clauses }
@@ -310,7 +310,7 @@ impl Watched {
         None
     }
 
-    // Looks at the clause of the next watch that waits, unless it was dropped, and answers it where it is false.
+    // Looks at the clause of the next watch that waits, unless it was dropped, and returns it if it is false.
     fn propagate_watch(
         &mut self,
         trail: &mut Trail,
@@ -333,7 +333,7 @@ impl Watched {
         self.propagate_clause(trail, db, number, lit)
     }
 
-    // Looks at the clause of the next watch that waits, and answers it where it is false.
+    // Looks at the clause of the next watch that waits, and returns it if it is false.
     fn propagate_clause(
         &mut self,
         trail: &mut Trail,
@@ -417,7 +417,7 @@ fn replace_or_force(
     }
 }
 
-// Sees to it that a literal is true that a clause forces if it is open. Answers whether it is; else the clause is false.
+// Makes sure that a literal is true that a clause forces if it is open. Returns whether it is; else the clause is false.
 fn make_true(trail: &mut Trail, db: &Clauses, id: ClauseId, lit: Lit) -> bool
     requires grown { IsFront trail.old.clauses db.now.clauses }
     requires attached { Contains trail.old.attached id }
@@ -487,7 +487,7 @@ fn replacement(trail: &Trail, clause: &[Lit], other: Lit, place: u32) -> Option<
     None
 }
 
-// An open literal of a clause and one that became false last, where all but the open one became so by the first so many literals.
+// An open literal of a clause and one that became false last, where all but the open one became so by the first `seen` literals.
 fn forcing(trail: &Trail, clause: &[Lit], seen: u32) -> Option<(Lit, Lit)>
     ensures { IfSome result (λ two. IsForcing trail.now.literals clause.now seen two.0 two.1) }
 {
@@ -503,7 +503,7 @@ fn forcing(trail: &Trail, clause: &[Lit], seen: u32) -> Option<(Lit, Lit)>
     Some((first, second))
 }
 
-// Two different literals of a clause, if it has two: rather such as aren't false, and else those that became false last, so that
+// Two different literals of a clause, if it has two: preferably ones that aren't false, and else those that became false last, so that
 // little has to be looked at again.
 fn two_literals(trail: &Trail, clause: &[Lit]) -> Option<(Lit, Lit)>
     ensures two { IfSome result (λ two. AreTwo clause.now two.0 two.1) }

@@ -20,7 +20,7 @@ module _ (vars places : List ℕ) (room var : ℕ) (heap : IsHeap vars places ro
     pub waits_more : has_place (slice_set places var (length vars)) ≡ slice_set (has_place places) var true
     waits_more = place_set places var (length vars) (below_absent (length vars) (length places) fits_more heap.limit)
 
-    -- and so it does wherever it is moved to
+    -- and also waits wherever it is moved to
     pub more_heap : (new_vars new_places : List ℕ) (more : ℕ) → ArePlaced new_vars new_places → has_place new_places ≡ has_place (slice_set places var (length vars)) → length new_vars ≡ length vars + 1 → length new_places ≡ length places → room ≤ more → IsHeap new_vars new_places more
     more_heap new_vars new_places more placed waiting long wide roomy =
         let wait : length (has_place places) ≡ length places = grind (arith, common_steps) in

@@ -18,7 +18,7 @@ use Rattle.sat_solve.proofs.Learning.{contains_last}
 use Rattle.sat_solve.proofs.Standing.{each_below}
 use Rattle.prop_core.proofs.Literals.{wider}
 
--- of the clauses so many are attached, where the trail began with its own
+-- the first `count` clauses are attached, where the trail began with its own
 pub record IsAdopting (start t : TrailState) (all : List Clause) (count : ℕ) : Type 0 where
   pub front : IsFront t.clauses all
   pub whole : (t.clauses ≡ all) ⊎ (count ≡ length t.clauses)
@@ -95,7 +95,7 @@ front_viewed {R} s v all clauses e f same =
     let g = subst (λ (x : SolverState R). IsFront x.adopted all) (sym e) f in
     subst (λ (cs : List Clause). take (length v.adopted) cs ≡ v.adopted) (sym same) g
 
--- a book that has one axiom more
+-- a book that has one more axiom
 pub record HasOneMore (old : List Clause) (new : List BookEntry) (vars : ℕ) : Type 0 where
   pub grown : IsFront old (clauses_of new)
   pub count : length (clauses_of new) ≡ length old + 1

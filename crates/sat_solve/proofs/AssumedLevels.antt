@@ -55,7 +55,7 @@ assumed_within (l ∷ ls) [] assumed = omega arith
 assumed_within (l ∷ ls) (None ∷ rs) assumed = rw (sum_by-cons (λ (r : Option ℕ). cond (is_none r) 1 0) None rs) (one_within (is_true assumed l) (assumed_of ls rs assumed) (level_of rs) (assumed_within ls rs assumed))
 assumed_within (l ∷ ls) (Some number ∷ rs) assumed = assumed_within ls rs assumed
 
--- where a search begins anew it goes on from there
+-- where a search restarts, it goes on from there
 pub begins_anew : (means : Means) (t : TrailState) (assumed : List Lit) (present level result : ℕ) → is_due means ≡ true → present ≡ level_of t.reasons → level ≡ assumed_level_of t assumed → result ≡ min present level → result ≡ next_level_of means t assumed
 begins_anew means t assumed present level result due p l r =
     let h : assumed_level_of t assumed ≤ level_of t.reasons = assumed_within t.literals t.reasons assumed in

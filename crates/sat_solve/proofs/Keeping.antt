@@ -121,7 +121,7 @@ pub searched_put : {E : Type 0} (r : Result ℕ E) (assumed : List Lit) (old new
 searched_put (Ok id) assumed old new budget c e = searched_closed old.entries old.entries new.entries budget budget id assumed (searched_none old.entries budget) c
 searched_put (Err error) assumed old new budget c e = subst (λ (b : LedgerState). IsSearched old.entries b.entries budget budget) (sym e) (searched_none old.entries budget)
 
--- and where memory was wanting, all stands as it did
+-- and if memory ran out, all stands as it did
 pub over_put : {E : Type 0} (r : Result ℕ E) (waiting : List Bool) (vars spare : ℕ) (t u : TrailState) (old new : LedgerState) → AreOver waiting vars spare t old.entries → WithRoom t u → OnErr r (new ≡ old) → OnErr r (AreOver waiting vars spare u new.entries)
 over_put (Ok id) waiting vars spare t u old new o w e = tt
 over_put (Err error) waiting vars spare t u old new o w e = subst (λ (b : LedgerState). AreOver waiting vars spare u b.entries) (sym e) (over_roomier waiting vars spare t u old.entries o w)

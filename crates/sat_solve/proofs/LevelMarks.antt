@@ -1,4 +1,4 @@
--- The levels of the first so many literals of a clause, as they are marked.
+-- The levels of the first literals of a clause, as they are marked.
 use Rattle.std.proofs.Common.{◌≡◌, ◌∙◌, ℕ, ◌+◌, ◌*◌, ◌<◌, ◌≤◌, Bool, true, false, not, ◌||◌, ◌++◌, ◌∷◌, [], List, refl, ap, sym, length, take, map, get_or, set, eqb, arith, subst, ⊎_elim, replicate}
 use Rattle.std.specs.Prelude.{slice_set, cond}
 use Rattle.std.proofs.lemmas.Grind.{common_steps}
@@ -14,7 +14,7 @@ use Rattle.sat_solve.specs.LevelCount.{IsLevelOf, HasLevel, AreLevelsOf, is_mark
 use Rattle.sat_solve.proofs.Places.{held_more}
 use Rattle.des_base.proofs.BoolLemmas.{or_left}
 
--- the variables of one literal more
+-- the variables of one more literal
 has_next : (clause : List Lit) (i v : ℕ) → i < length clause → has_var v (take (i + 1) clause) ≡ (has_var v (take i clause) || (eqb (get_or clause i no_literal).var v || false))
 has_next clause i v h =
     let e : take (i + 1) clause ≡ take i clause ++ get_or clause i no_literal ∷ [] = grind (arith, common_steps) in

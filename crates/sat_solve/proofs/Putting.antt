@@ -33,7 +33,7 @@ learnt_both old book new a b = record {
   all_learnt = are_learnt_both a.since b.since a.all_learnt b.all_learnt;
 }
 
--- a final entry alone is put for a refusal
+-- a final entry alone is put for a refutation
 pub put_closed : (assumed : List Lit) (book new : List BookEntry) (number : ℕ) → IsClosed assumed book new number → HasPut book new (Unsat number)
 put_closed assumed book new number c = record {
   since = final c.clause c.hints ∷ [];

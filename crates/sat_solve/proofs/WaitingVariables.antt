@@ -127,7 +127,7 @@ serving_roomier vars spare t u s r = rw r.same (record { joined = s.joined; belo
 pub waiting_roomier : (waiting : List Bool) (vars : ℕ) (t u : TrailState) → AreWaiting waiting t.literals vars → WithRoom t u → AreWaiting waiting u.literals vars
 waiting_roomier waiting vars t u w r = let e : u.literals ≡ t.literals = ap (λ (x : TrailState). x.literals) r.same in rw e w
 
--- room for so many clauses
+-- room for n clauses
 pub room_max : (t u : TrailState) (n : ℕ) → u ≡ record t { spare = max t.spare n } → WithRoom t u
 room_max t u n e =
     let s : u.spare ≡ max t.spare n = ap (λ (x : TrailState). x.spare) e in

@@ -28,7 +28,7 @@ with_zeros activities vars = activities ++ replicate (vars - length activities) 
 abbrev pub with_vars : ActivityState → ℕ → ActivityState
 with_vars s vars = record s { activities = with_zeros s.activities vars; counted = widened s.counted vars; waiting = widened s.waiting vars }
 
--- Where memory is wanting, no more variables are known, but of some more it may be kept that they were never active.
+-- If memory runs out, no more variables are known, but of some more it may be kept that they were never active.
 pub record KeepsActivity (old new : ActivityState) (vars : ℕ) : Type 0 where
   pub activities : (new.activities ≡ old.activities) ⊎ (new.activities ≡ with_zeros old.activities vars)
   pub counted : KeepsValues old.counted new.counted vars

@@ -1,4 +1,4 @@
--- What a search is advised: which variable to decide next, with which sign, and when to begin anew.
+-- What a search is advised: which variable to decide next, with which sign, and when to restart.
 --
 -- A variable is decided as it last stood (Pipatsrisawat and Darwiche, "A lightweight component caching scheme for satisfiability
 -- solvers", 2007), and the first time as false.
@@ -21,7 +21,7 @@ pub record Tries : Type 0 where
 abbrev pub from_first : List Lit → Tries
 from_first literals = record { literals = literals; next = 0 }
 
--- a literal can be decided: its variable is one of so many, and it is open
+-- a literal can be decided: its variable is below `vars`, and it is open
 abbrev pub can_be_decided : List Lit → ℕ → Lit → Bool
 can_be_decided taken vars l = nat_lt l.var vars && is_open taken l
 
@@ -54,7 +54,7 @@ no_advice = record { activity = never_active; phases = []; levels = []; means = 
 abbrev pub with_advice : AdviceState → ℕ → AdviceState
 with_advice a vars = record a { activity = with_vars a.activity vars; phases = widened a.phases vars; levels = widened a.levels (vars + 1) }
 
--- where memory is wanting, something may be kept of further variables
+-- if memory runs out, something may be kept of further variables
 pub record KeepsAdvice (old new : AdviceState) (vars : ℕ) : Type 0 where
   pub activity : KeepsActivity old.activity new.activity vars
   pub phases : KeepsValues old.phases new.phases vars
@@ -87,6 +87,6 @@ with_unassigned a l = record a { activity = with_back a.activity l.var; phases =
 abbrev pub with_hints_part : ActivityState → List Clause → List ℕ → ActivityState
 with_hints_part s clauses hints = fold (λ (t : ActivityState) (number : ℕ). with_option_part t (clause_numbered clauses number)) s hints
 
--- the last so many hints: those of a learnt clause that lead from the conflict to the clause as it was before it was shortened
+-- the last `count` hints: those of a learnt clause that lead from the conflict to the clause as it was before it was shortened
 abbrev pub last_hints : List ℕ → ℕ → List ℕ
 last_hints hints count = drop (length hints - count) hints

@@ -38,7 +38,7 @@ comes_before activities ranks var other =
     then (if slice_index ranks var == slice_index ranks other then nat_lt var other else nat_lt (slice_index ranks other) (slice_index ranks var))
     else nat_lt (slice_index activities other) (slice_index activities var)
 
--- None is before itself, of two that differ just one is before the other, and what is before another is before all that come after that.
+-- None is before itself, of two that differ exactly one is before the other, and what is before another is before all that come after that.
 pub record IsStrictOrder (before : ℕ → ℕ → Bool) : Type 0 where
   pub never_itself : (one : ℕ) → before one one ≡ false
   pub just_one : (one other : ℕ) → (one ≡ other → ⊥) → before other one ≡ not (before one other)

@@ -22,7 +22,7 @@ pub record HasLevel (t : TrailState) (clause : Clause) (level : ℕ) : Type 0 wh
 abbrev pub is_marked_level : List Bool → ℕ → Bool
 is_marked_level marks level = slice_index_or marks level false
 
--- of the levels that can be marked just those of the clause are marked
+-- of the levels that can be marked exactly those of the clause are marked
 pub record AreLevelsOf (t : TrailState) (clause : Clause) (marks : List Bool) : Type 0 where
   pub each : (level : ℕ) → is_marked_level marks level ≡ true → HasLevel t clause level
   pub all : (level : ℕ) → level < length marks → HasLevel t clause level → is_marked_level marks level ≡ true

@@ -1,10 +1,10 @@
--- When a search begins anew: where the clauses that were learnt last have literals of more levels than those of the whole search
+-- When a search restarts: if the clauses that were learnt last have literals of more levels than those of the whole search
 -- (Audemard and Simon, "Refining restarts strategies for SAT and UNSAT formulas", 2012).
 use Rattle.std.specs.Prelude.{ℕ, ◌+◌, ◌-◌, ◌*◌, ◌/◌, Bool, ◌&&◌, min, nat_lt, nat_le, if◌then◌else◌}
 use Rattle.sat_solve.specs.declared.restarts.TheConstants.{SHORTEST, LEVEL, LATE, WHOLE, MOST_LEVELS}
 
 -- The mean number of levels of the clauses that were learnt late and of all, in parts of one level; how many were learnt, as far as
--- that matters, and how many since the search began anew.
+-- that matters, and how many since the last restart.
 pub record Means : Type 0 where
   pub late : ℕ
   pub whole : ℕ
@@ -19,11 +19,11 @@ no_means = record { late = 0; whole = 0; clauses = 0; since = 0 }
 abbrev pub moved_mean : ℕ → ℕ → ℕ → ℕ
 moved_mean mean number part = mean - mean / part + number / part
 
--- a number of levels in parts of one, where more than MOST_LEVELS count as so many
+-- a number of levels in parts of one, where more than MOST_LEVELS count as MOST_LEVELS
 abbrev pub in_parts : ℕ → ℕ
 in_parts levels = min levels MOST_LEVELS * LEVEL
 
--- A clause of so many levels was learnt. The mean of all moves by the exact part as long as there are few.
+-- A clause of `levels` levels was learnt. The mean of all moves by the exact part as long as there are few.
 abbrev pub with_learnt_clause : Means → ℕ → Means
 with_learnt_clause m levels = record {
   late = moved_mean m.late (in_parts levels) LATE;
@@ -36,10 +36,10 @@ with_learnt_clause m levels = record {
 abbrev pub is_due : Means → Bool
 is_due m = nat_le SHORTEST m.since && nat_lt (m.whole * 5) (m.late * 4)
 
--- it begins anew
+-- it restarts
 abbrev pub begun_anew : Means → Means
 begun_anew m = record m { late = m.whole; since = 0 }
 
--- once it was asked whether the search is to begin anew: where that was due, it has begun
+-- once it was asked whether the search is to restart: if that was due, it has restarted
 abbrev pub after_asking : Means → Means
 after_asking m = if is_due m then begun_anew m else m

@@ -39,7 +39,7 @@ pub record AddsVariables {R : Type 0} (old new : SolverState R) (vars : ℕ) : T
   pub waiting : new.order.waiting ≡ old.order.waiting ++ replicate (vars - length old.order.waiting) true
   pub assignment : new.assignment ≡ widened old.assignment vars
 
--- So many variables and room for so many more clauses were reserved: there are no fewer of either than before.
+-- `asked` variables and room for `more` clauses were reserved: there are no fewer of either than before.
 pub record HasReserved {R : Type 0} (old new : SolverState R) (asked more : ℕ) : Type 0 where
   pub vars : new.vars ≡ max old.vars asked
   pub spare : new.spare ≡ max old.spare more
@@ -63,7 +63,7 @@ pub record HasAttached (old new : TrailState) (all : List Clause) : Type 0 where
   pub vars : new.vars ≡ old.vars
   pub spare : new.spare + length all ≡ old.spare + length old.clauses
 
--- the first so many assumptions are true
+-- the first `count` assumptions are true
 abbrev pub AreTaken : List Lit → List Lit → ℕ → Type 0
 AreTaken literals assumed count = list_all (is_true literals) (take count assumed) ≡ true
 
@@ -89,7 +89,7 @@ pub record IsUnder (assumed : List Lit) (vars : ℕ) (t : TrailState) : Type 0 w
 abbrev pub AreWaiting : List Bool → List Lit → ℕ → Type 0
 AreWaiting waiting literals vars = (var : ℕ) → var < vars → is_open literals (record { var = var; positive = false }) ≡ true → waits waiting var ≡ true
 
--- The trail serves, each open variable waits, and the order has just these variables.
+-- The trail serves, each open variable waits, and the order has exactly these variables.
 pub record AreSound (waiting : List Bool) (vars spare : ℕ) (t : TrailState) : Type 0 where
   pub serving : IsServing vars spare t
   pub waiting_open : AreWaiting waiting t.literals vars
@@ -109,7 +109,7 @@ pub record AreOver (waiting : List Bool) (vars spare : ℕ) (t : TrailState) (bo
 abbrev pub IsOver : {R : Type 0} → Search R → List BookEntry → Type 0
 IsOver s book = AreOver s.order.waiting s.vars s.spare s.propagator book
 
--- they stand under assumptions, of which the first so many are true
+-- they stand under assumptions, of which the first `taken` are true
 pub record AreUnderWay (assumed : List Lit) (taken : ℕ) (waiting : List Bool) (vars spare : ℕ) (t : TrailState) (book : List BookEntry) : Type 0 where
   pub over : AreOver waiting vars spare t book
   pub under : IsUnder assumed vars t
@@ -189,7 +189,7 @@ pub record IsFurther (t : TrailState) (assumed : List Lit) (place : ℕ) : Type 
   pub decided : reason_at t.reasons place ≡ None
   pub further : is_true assumed (literal_at t.literals place) ≡ false
 
--- each decision of the first so many places is an assumption
+-- each decision of the first `count` places is an assumption
 abbrev pub HasAssumedDecisions : TrailState → List Lit → ℕ → Type 0
 HasAssumedDecisions t assumed count = (place : ℕ) → place < count → reason_at t.reasons place ≡ None → is_true assumed (literal_at t.literals place) ≡ true
 
@@ -201,7 +201,7 @@ decisions literals reasons = map (λ (p : Lit × Option ℕ). p.0) (filter (λ (
 abbrev pub assumed_level_of : TrailState → List Lit → ℕ
 assumed_level_of t assumed = prefix_len (is_true assumed) (decisions t.literals t.reasons)
 
--- the level that a search goes on from after a conflict: the present one, or that of the assumptions where it begins anew
+-- the level that a search goes on from after a conflict: the present one, or that of the assumptions if it restarts
 abbrev pub next_level_of : Means → TrailState → List Lit → ℕ
 next_level_of means t assumed = if is_due means then assumed_level_of t assumed else level_of t.reasons
 

@@ -66,7 +66,7 @@ impl Activity {
         }
     }
 
-    // Sees to it that this many variables are known. Those that are added were never active, and don't wait.
+    // Makes sure that this many variables are known. Those that are added were never active, and don't wait.
     pub fn widen(&mut self, vars: u32) -> Result<(), Memory>
         ensures ok { OnOk result (self.new ≡ with_vars self.old vars) }
         ensures err { OnErr result (KeepsActivity self.old self.new vars) }

@@ -1,10 +1,10 @@
-// What a search is advised: which variable to decide next, with which sign, and when to begin anew.
+// What a search is advised: which variable to decide next, with which sign, and when to restart.
 //
 // - The variables of the clauses that lead from a conflict to the clause that is learnt have taken part in it; one that waits is
 //   suggested, mostly the most active.
 // - A variable is decided as it last stood (Pipatsrisawat and Darwiche, "A lightweight component caching scheme for satisfiability
 //   solvers", 2007), and the first time as false.
-// - Literals that were given to be tried come before all suggestions, once so many clauses were learnt that the search is no short one.
+// - Literals that were given to be tried come before all suggestions, once the search has learnt enough clauses to be no short one.
 //
 // No contract says that the advice is good: whoever takes it tests it.
 ghost use Rattle.std.specs.Prelude.{◌≡◌, OnOk, OnErr};
@@ -78,7 +78,7 @@ impl Advice {
         self.tries.next_open(trail, vars)
     }
 
-    // Sees to it that there is advice on this many variables.
+    // Makes sure that there is advice on this many variables.
     pub fn widen(&mut self, vars: u32) -> Result<(), Memory>
         ensures ok { OnOk result (self.new ≡ with_advice self.old vars) }
         ensures err { OnErr result (KeepsAdvice self.old self.new vars) }
@@ -141,7 +141,7 @@ impl Advice {
         self.restarts.update(levels);
     }
 
-    // Says whether the search is to begin anew.
+    // Says whether the search is to restart.
     pub fn begins_anew(&mut self) -> bool
         ensures due { result ≡ is_due self.old.means }
         ensures after { self.new ≡ record self.old { means = after_asking self.old.means } }

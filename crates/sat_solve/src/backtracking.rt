@@ -37,8 +37,8 @@ impl<R: Fn(u32) -> u64> Search<R> {
         self.taken = 0;
     }
 
-    // Goes back to the level of the assumptions where the search is to begin anew. It does so after the learnt clause was attached where
-    // that forces its literal, so no jump is lost.
+    // Goes back to the level of the assumptions if the search is to restart. It does so after the learnt clause was attached where that
+    // forces its literal, so no jump is lost.
     pub fn restart(&mut self, assumptions: &[Lit])
         requires sound { IsSound self.old }
         ensures kept { KeepsVariables self.old self.new }
@@ -70,7 +70,7 @@ fn unassign_above<R: Fn(u32) -> u64>(
     }
 }
 
-// Whether the last of the first so many literals stands above a level.
+// Whether the last of the first `count` literals stands above a level.
 fn stands_above(trail: &Trail, count: u32, level: u32) -> bool
     requires { count ≤ length trail.now.literals }
     ensures some { result ≡ true → 0 < count }

@@ -35,7 +35,7 @@ pub fn makes_true(trail: &Trail, lit: Lit) -> bool
     }
 }
 
-// The first assumption that is not true. The first so many are, and it goes on from there.
+// The first assumption that is not true. `assumptions[..taken]` are, and it goes on from there.
 pub fn next_assumption(trail: &Trail, assumptions: &[Lit], taken: &mut usize) -> Option<Lit>
     requires taken { AreTaken trail.now.literals assumptions.now taken.old }
     ensures taken { AreTaken trail.now.literals assumptions.now taken.new }

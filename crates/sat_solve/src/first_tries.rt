@@ -64,7 +64,7 @@ impl FirstTries {
     }
 }
 
-// The place of the first literal, from a place on, that is known and open: past the last where there is none.
+// The place of the first literal, from a place on, that is known and open: past the last if there is none.
 fn first_open(lits: &[Lit], from: usize, trail: &Trail, vars: u32) -> usize
     requires { from ≤ length lits.now }
     ensures first { result ≡ from + position_or_len (can_be_decided trail.now.literals vars) (drop from lits.now) }

@@ -64,7 +64,7 @@ impl Heap {
         self.vars.len() as u32
     }
 
-    // Sees to it that this many variables are known. Those that are added don't wait.
+    // Makes sure that this many variables are known. Those that are added don't wait.
     pub fn widen(&mut self, vars: u32) -> Result<(), Memory>
         ensures ok { OnOk result (self.new ≡ widened self.old vars) }
         ensures err { OnErr result (self.new ≡ self.old) }
@@ -130,7 +130,7 @@ fn take_first(vars: &mut [u32], places: &mut [u32], last: u32, ratings: Ratings)
     first
 }
 
-// Puts a variable that has no place behind the last of a heap, or above that place where it comes before those that stand there.
+// Puts a variable that has no place behind the last of a heap, or above that place if it comes before those that stand there.
 fn add_last(vars: &mut Vec<u32>, places: &mut [u32], var: u32, ratings: Ratings)
     requires heap { IsHeap vars.old.items places.old (vec_capacity vars.old) }
     requires known { var < length places.old }
@@ -143,7 +143,7 @@ fn add_last(vars: &mut Vec<u32>, places: &mut [u32], var: u32, ratings: Ratings)
     rise(vars, places, place, var, ratings);
 }
 
-// Puts a variable at a place of the heap, or above it where it comes before those that stand there.
+// Puts a variable at a place of the heap, or above it if it comes before those that stand there.
 fn rise(vars: &mut [u32], places: &mut [u32], from: usize, var: u32, ratings: Ratings)
     requires from { from < length vars.old }
     requires known { var < length places.old }
@@ -160,7 +160,7 @@ fn rise(vars: &mut [u32], places: &mut [u32], from: usize, var: u32, ratings: Ra
     put(vars, places, place, var);
 }
 
-// Puts a variable at the top of the heap, or below it where others come before it.
+// Puts a variable at the top of the heap, or below it if others come before it.
 fn sink(vars: &mut [u32], places: &mut [u32], var: u32, ratings: Ratings)
     requires some { 0 < length vars.old }
     requires known { var < length places.old }

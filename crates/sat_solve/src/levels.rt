@@ -37,7 +37,7 @@ impl Levels {
         }
     }
 
-    // Sees to it that the levels of so many variables can be counted, and level 0.
+    // Makes sure that the levels of `vars` variables can be counted, and level 0.
     pub fn widen(&mut self, vars: u32) -> Result<(), Memory>
         ensures ok { OnOk result (self.new ≡ widened self.old (vars + 1)) }
         ensures err { OnErr result (self.new ≡ self.old) }

@@ -37,7 +37,7 @@ impl Marks {
         }
     }
 
-    // Sees to it that there are so many places. Those that are added are not marked.
+    // Makes sure that there are at least `places` places. Those that are added are not marked.
     pub fn widen(&mut self, places: usize) -> Result<(), Memory>
         ensures ok { OnOk result (self.new ≡ widened self.old places) }
         ensures err { OnErr result (self.new ≡ self.old) }

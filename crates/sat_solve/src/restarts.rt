@@ -1,4 +1,4 @@
-// When a search begins anew: where the clauses that were learnt last have literals of more levels than those of the whole search, so
+// When a search restarts: if the clauses that were learnt last have literals of more levels than those of the whole search, so
 // that little is learnt where it goes now (Audemard and Simon, "Refining restarts strategies for SAT and UNSAT formulas", 2012).
 //
 // Both means are whole numbers, in parts of one level. A mean moves towards each new number by a fixed part of the way, so that late
@@ -8,13 +8,13 @@ ghost use Rattle.sat_solve.specs.Restarts.{no_means, moved_mean, with_learnt_cla
 
 use std::marker::Model;
 
-// How many conflicts lie between two beginnings at least.
+// The least number of conflicts between two restarts.
 const SHORTEST: u64 = 50;
 
 // The parts of one level.
 const LEVEL: u64 = 1_048_576;
 
-// More levels count as so many.
+// More levels count as this many.
 const MOST_LEVELS: u64 = 4_294_967_296;
 
 // No mean is greater.
@@ -32,7 +32,7 @@ pub struct Restarts {
     whole: u64,
     // How many clauses were learnt, up to the number from which on the mean moves by the same part.
     clauses: u64,
-    // How many were learnt since the last beginning, up to the number that is enough.
+    // How many were learnt since the last restart, up to the number that is enough.
     since: u64,
 }
 
@@ -73,7 +73,7 @@ impl Restarts {
         self.clauses
     }
 
-    // Updates the means by a clause that was learnt, whose literals are of so many levels.
+    // Updates the means by a clause that was learnt, whose literals are of `levels` levels.
     pub fn update(&mut self, levels: u64)
         ensures { self.new ≡ with_learnt_clause self.old levels }
     {
@@ -84,7 +84,7 @@ impl Restarts {
         self.whole = moved_mean(self.whole, parts, self.clauses);
     }
 
-    // Whether the search is to begin anew: the late mean is greater by a quarter. If so, it has begun.
+    // Whether the search is to restart: the late mean is greater by a quarter. If so, it has restarted.
     pub fn begins_anew(&mut self) -> bool
         ensures due { result ≡ is_due self.old }
         ensures after { self.new ≡ after_asking self.old }

@@ -25,15 +25,15 @@ pub struct Search<R> {
     pub advice: Advice,
     pub propagator: Propagator,
     pub learner: Learner,
-    // So many assumptions are true, from the first on.
+    // `assumptions[..taken]` are true.
     pub taken: usize,
     pub vars: u32,
-    // There is always room to attach so many clauses.
+    // There is always room to attach `spare` clauses.
     pub spare: usize,
 }
 
 impl<R: Fn(u32) -> u64> Search<R> {
-    // Searches until there is an answer, and leaves the trail as it stands then.
+    // Searches until there is an answer. The trail then stays as it is.
     pub fn run(
         &mut self,
         book: &mut Ledger,
@@ -56,7 +56,7 @@ impl<R: Fn(u32) -> u64> Search<R> {
         }
     }
 
-    // Propagates, and does what is then to be done: an answer, or it goes on.
+    // Propagates, and then either has an answer or goes on.
     fn step(
         &mut self,
         book: &mut Ledger,

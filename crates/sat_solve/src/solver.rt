@@ -29,7 +29,7 @@ use std::marker::Model;
 pub struct Solver<R> {
     search: Search<R>,
     assignment: Assignment,
-    // So many clauses of the book were adopted.
+    // How many clauses of the book were adopted.
     clauses: u64,
 }
 
@@ -68,10 +68,10 @@ impl<R: Fn(u32) -> u64> Solver<R> {
         }
     }
 
-    /// Sees to it that there are this many variables, and room to adopt this many more clauses. Variables that are added wait, and have the
+    /// Makes sure that there are this many variables, and room to adopt this many more clauses. Variables that are added wait, and have the
     /// value false.
     ///
-    /// Where memory is wanting the solver is as before, but that there may be values of further variables, all false; so it can be called again.
+    /// If memory runs out, the solver is as before, except that there may be values of further variables, all false; so it can be called again.
     pub fn reserve(&mut self, vars: u32, clauses: usize) -> Result<(), Memory>
         requires rank { IsRank R.pre R.post self.old.order.rank }
         requires limit { vars ≤ VAR_LIMIT }

@@ -9,7 +9,7 @@ use des_base::MOST_COLUMNS;
 use des_net::Network;
 use log_order::AlarmLog;
 
-/// The size of a question, told before any clause is written.
+/// The size of a question, known before any clause is written.
 ///
 /// It bounds the work of writing the clauses and isn't their number. It looks at each event once for each component and
 /// once for each alarm, and takes no memory.

@@ -19,7 +19,7 @@ use Rattle.verdict_telling.specs.declared.teller.VerdictTeller.{VerdictTeller}
 
 -- ---- books
 
--- first by so many, and then by so many
+-- first by at most a, and then by at most b
 pub grown_both : (a b : ℕ) (old mid new : List BookEntry) → HasGrownWithin a old mid → HasGrownWithin b mid new → HasGrownWithin (a + b) old new
 grown_both a b old mid new one other = record {
   since = one.since ++ other.since;
@@ -31,7 +31,7 @@ grown_both a b old mid new one other = record {
   fresh = fresh_both old mid one.since other.since one.whole one.fresh other.fresh;
 }
 
--- by so many, and so by more
+-- by at most a, and so by at most b
 grown_more : (a b : ℕ) (old new : List BookEntry) → a ≤ b → HasGrownWithin a old new → HasGrownWithin b old new
 grown_more a b old new few grown = record { since = grown.since; whole = grown.whole; within = (let less = grown.within in omega (arith, few, less)); fresh = grown.fresh }
 
@@ -53,7 +53,7 @@ judged_grows m e old new verdict (inl asked) = grown_closed m.budget old (old ++
 
 -- ---- stages
 
--- The same is judged, and the book grew by no more than the budget for each of so many events.
+-- The same is judged, and the book grew by no more than the budget for each of `count` events.
 pub record Grows {R : Type 0} (count : ℕ) (s t : VerdictTeller R) : Type 0 where
   pub stays : t.judge.matter ≡ s.judge.matter
   pub grown : HasGrownWithin (count * s.judge.matter.budget) s.judge.book t.judge.book

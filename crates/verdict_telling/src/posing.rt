@@ -18,7 +18,7 @@ use sat_solve::Solver;
 use std::alloc::Global;
 use telling::Broken;
 
-/// Tells of a case: what explains its log with the fewest faults within so many parallel steps, and then, where there is a least number,
+/// Tells of a case: what explains its log with the fewest faults within `steps` parallel steps, and then, where there is a least number,
 /// the verdict on each fault event. Each reply is put before the next question is asked.
 pub fn tell_case<S: Sink>(
     alloc: Global,

@@ -50,7 +50,7 @@ pub fn tell_whole<R: Fn(u32) -> u64, S: Sink>(
     ensures in_order { StandsInOrder case.now.net case.now.log steps budget book.new.entries }
     ensures failures { RisesExactlyIf (IsErrOf result Broken.Put) (S.failures out.old) (S.failures out.new) }
 {
-    // (The parts are let go by a call: exits that do so by themselves are dear to prove.)
+    // (The parts are dropped by a call: implicit drops at an exit are expensive to prove.)
     let mut parts = parts;
     match tell_found(alloc, case, steps, budget, &mut parts, book, out) {
         Ok(Found::Explained(best)) => {
@@ -76,7 +76,7 @@ pub fn tell_whole<R: Fn(u32) -> u64, S: Sink>(
     }
 }
 
-// The same where the verdicts were told.
+// What was told, if the verdicts were.
 fn judged(told: Result<bool, Broken>) -> Result<Told, Broken>
     ensures { HasJudged told result }
 {

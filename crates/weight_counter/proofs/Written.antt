@@ -127,7 +127,7 @@ scales_are_exact scale inputs = record {
 
 -- ---- written by loops
 
--- one clause more
+-- one more clause
 pub adds_more : (f : ℕ → Clause) (old mid new : ClauseStore) (j k : ℕ) → AddsWithin old (map f (numbers_below j)) j (k * j) mid → AddsWithin mid (f j ∷ []) 1 k new → AddsWithin old (map f (numbers_below (j + 1))) (j + 1) (k * (j + 1)) new
 adds_more f old mid new j k so_far adds =
     let more : k * j + k ≤ k * (j + 1) = omega (arith, times k j) in
@@ -142,7 +142,7 @@ length_front [] k x h = cc
 length_front (y ∷ xs) zero x h = refl
 length_front (y ∷ xs) (suc k) x h = ap suc (length_front xs k x h)
 
--- one input more
+-- one more input
 pub adds_input : (at : ℕ → ℕ → ℕ) (amounts : ℕ) (inputs : List Weighted) (old mid new : ClauseStore) (k : ℕ) (x : Weighted) → slice_get inputs k ≡ Some x →
     AddsWithin old (scale_clauses at amounts (take k inputs)) (2 * (k * amounts)) (5 * (k * amounts)) mid → AddsWithin mid (weight_clauses at amounts k x) (2 * amounts) (5 * amounts) new →
     AddsWithin old (scale_clauses at amounts (take (k + 1) inputs)) (2 * ((k + 1) * amounts)) (5 * ((k + 1) * amounts)) new

@@ -89,7 +89,7 @@ pub record IsExactScale (scale : Scale) (inputs : List Weighted) : Type 0 where
   pub amount_back : (i j : ℕ) → IsScalePlace scale i j → amount_of scale (place_variable scale i j) ≡ j
   pub own : (i j : ℕ) → IsScalePlace scale i j → (scale.first ≤ place_variable scale i j) × (place_variable scale i j < scale.first + scale.inputs * scale.amounts)
 
--- So it is for all scales and inputs.
+-- This holds for all scales and inputs.
 abbrev pub ScalesAreExact : Type 0
 ScalesAreExact = (scale : Scale) (inputs : List Weighted) → IsExactScale scale inputs
 
@@ -101,6 +101,6 @@ pub record IsSmall (scale : Scale) (inputs : List Weighted) : Type 0 where
   pub short : sum_by length (scale_clauses (place_variable scale) scale.amounts inputs) ≤ 5 * (length inputs * scale.amounts)
   pub known : AllByRecursion (HasValues (scale.first + scale.inputs * scale.amounts)) (scale_clauses (place_variable scale) scale.amounts inputs)
 
--- So it is where the inputs are those that the scale counts, on variables before its own.
+-- This holds if the inputs are those that the scale counts, on variables before its own.
 abbrev pub ScalesAreSmall : Type 0
 ScalesAreSmall = (scale : Scale) (inputs : List Weighted) → scale.inputs ≡ length inputs → AllByRecursion (λ x. x.input.var < scale.first) inputs → IsSmall scale inputs

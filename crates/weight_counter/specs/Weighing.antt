@@ -18,7 +18,7 @@ weight_true value inputs = sum_by (weight_of value) inputs
 
 -- Which clause of a counter it is. A place (i, j), both from 0, is for that the first i + 1 inputs weigh at least j + 1.
 pub data WeightClause : Type 0 where
-  -- where the first inputs weigh so much, so do those with one more
+  -- what the first inputs weigh, those with one more weigh too
   weighs_on : (i j : ℕ) → WeightClause
   -- a true input weighs as much as its weight, whatever was before it
   weighs_alone : (i j : ℕ) → Lit → WeightClause
@@ -31,7 +31,7 @@ weight_clause at (weighs_on i j) = negative (at i j) ∷ positive (at (suc i) j)
 weight_clause at (weighs_alone i j x) = negation x ∷ positive (at i j) ∷ []
 weight_clause at (weighs_up i j weight x) = negative (at i j) ∷ negation x ∷ positive (at (suc i) (j + weight)) ∷ []
 
--- for which numbers it is written, over these inputs, where so many amounts are told apart
+-- for which numbers it is written, over these inputs, where `amounts` amounts are distinguished
 abbrev pub IsWeightClause : List Weighted → ℕ → WeightClause → Type 0
 IsWeightClause inputs amounts (weighs_on i j) = (suc i < length inputs) × (j < amounts)
 IsWeightClause inputs amounts (weighs_alone i j x) = (weight : ℕ) × (slice_get inputs i ≡ Some (record { input = x; weight = weight })) × (j < weight) × (j < amounts)
@@ -49,10 +49,10 @@ abbrev pub WeightsAreReached : Type 0
 WeightsAreReached = (at : ℕ → ℕ → ℕ) (inputs : List Weighted) (amounts : ℕ) (clauses : List Clause) (value : ℕ → Bool) → AreWeightClauses at inputs amounts clauses → AllClausesTrue value clauses →
     (i j : ℕ) → i < length inputs → j < amounts → suc j ≤ weight_true value (take (suc i) inputs) → value (at i j) ≡ true
 
--- the variables are true just where the inputs reach their places
+-- the variables are true exactly if the inputs reach their places
 abbrev pub TellsWeights : (ℕ → ℕ → ℕ) → List Weighted → ℕ → (ℕ → Bool) → Type 0
 TellsWeights at inputs amounts value = (i j : ℕ) → i < length inputs → j < amounts → value (at i j) ≡ true ↔ suc j ≤ weight_true value (take (suc i) inputs)
 
--- and where they say just that, the clauses are true.
+-- and where they say exactly that, the clauses are true.
 abbrev pub WeightsAreTrue : Type 0
 WeightsAreTrue = (at : ℕ → ℕ → ℕ) (inputs : List Weighted) (amounts : ℕ) (clauses : List Clause) (value : ℕ → Bool) → AreWeightClauses at inputs amounts clauses → TellsWeights at inputs amounts value → AllClausesTrue value clauses

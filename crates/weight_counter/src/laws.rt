@@ -2,12 +2,12 @@
 ghost use Rattle.weight_counter.specs.Scales.{ScalesAreExact, ScalesAreSmall};
 ghost use Rattle.weight_counter.specs.Weighing.{WeightsAreReached, WeightsAreTrue};
 
-/// A law: where the clauses are true, so is the variable of each place that the inputs reach.
+/// A law: if the clauses are true, so is the variable of each place that the inputs reach.
 pub fn weights_are_reached()
     ensures { WeightsAreReached }
 {}
 
-/// A law: where the variables say just what the inputs reach, the clauses are true.
+/// A law: if the variables say exactly what the inputs reach, the clauses are true.
 pub fn weights_are_true()
     ensures { WeightsAreTrue }
 {}

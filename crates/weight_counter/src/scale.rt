@@ -17,13 +17,13 @@ pub struct Scale {
     pub first: u32,
     /// How many inputs there are.
     pub inputs: u32,
-    /// How many amounts are told apart, from 1 on.
+    /// How many amounts are distinguished, from 1 on.
     pub amounts: u32,
 }
 
 impl Scale {
-    /// Adds clauses that weigh the inputs, up to so many amounts, with a new variable for each input and amount. It uses up room
-    /// where some was reserved.
+    /// Adds clauses that weigh the inputs, up to `amounts` amounts, with a new variable for each input and amount. It uses up
+    /// reserved room.
     ///
     /// Inputs may be negations, and one literal may stand among them more than once; then it weighs as often.
     pub fn new(

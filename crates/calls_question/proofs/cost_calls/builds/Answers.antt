@@ -1,4 +1,4 @@
--- The question is no larger than its question of costs, and it is built within so many steps.
+-- The question is no larger than its question of costs, and it is built within at most MOST_STEPS steps.
 use Rattle.std.proofs.Common.{◌≤◌, ℕ, arith, subst, sym}
 use Rattle.cost_least.specs.Costs.{cost_size}
 use Rattle.des_base.specs.declared.TheConstants.{MOST_STEPS}

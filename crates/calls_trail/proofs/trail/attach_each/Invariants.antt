@@ -1,4 +1,4 @@
--- so many clauses are attached, and nothing else has changed
+-- the clauses so far are attached, and nothing else has changed
 use Rattle.std.specs.Prelude.{◌≡◌, ◌+◌, ◌≤◌, [], length}
 use Rattle.sat_prop.specs.Changes.{IsFront}
 use Rattle.calls_trail.proofs.trail.attach_each.Given as goal

@@ -1,4 +1,4 @@
--- By the session, or by want of memory before it begins.
+-- By the session, or out of memory before it begins.
 use Rattle.diagnose_cli.proofs.SessionAnswers.{broke_before}
 use Rattle.diagnose_cli.proofs.session_command.carry_out_by_order.Goals as goal
 

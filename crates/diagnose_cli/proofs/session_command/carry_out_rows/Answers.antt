@@ -1,4 +1,4 @@
--- As the rows go, or by nothing where memory is wanting before.
+-- As the rows go, or by nothing if memory runs out before.
 use Rattle.std.proofs.Common.{◌≡◌, ◌∙◌, [], ap, subst, sym}
 use Rattle.des_base.specs.Outside.{Rose}
 use Rattle.endings.specs.Puts.{Speaks}

@@ -1,4 +1,4 @@
--- By what is tested, or by nothing where memory is wanting before.
+-- By what is tested, or by nothing if memory runs out before.
 use Rattle.std.proofs.Common.{◌∙◌, ap, inl}
 use Rattle.diagnose_cli.proofs.twin_command.test.Goals as goal
 

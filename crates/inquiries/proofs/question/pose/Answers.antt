@@ -1,4 +1,4 @@
--- By what is posed, or by nothing where memory is wanting before.
+-- By what is posed, or by nothing if memory runs out before.
 use Rattle.std.proofs.Common.{◌∙◌, ap, inl}
 use Rattle.inquiries.proofs.question.pose.Goals as goal
 

@@ -3,7 +3,7 @@ use Rattle.std.specs.Prelude.{slice_index}
 use Rattle.model_text.specs.ModelFaults.{component_numbers}
 use Rattle.model_text.proofs.reader.component_number_in.Given as goal
 
--- the component behind those that were passed is the one behind so many fewer
+-- the component that is looked for comes after `before` others of the rest
 abbrev pub invariant-loop-line : goal.invariant-loop-line
 invariant-loop-line l = slice_index (component_numbers l.fn.lines) l.fn.comp ≡ slice_index (component_numbers l.lines) l.before
 

@@ -1,4 +1,4 @@
--- Each answer says that the run is accepted exactly where it is.
+-- Each answer says that the run is accepted exactly if it is.
 use Rattle.std.proofs.Common.{◌≡◌, ◌∙◌, ◌+◌, ◌≤◌, ℕ, List, ap, subst, rules, arith, not, count_by}
 use Rattle.std.specs.Prelude.{MatchOption}
 use Rattle.std.proofs.lemmas.Option.{MatchOption-at_some}

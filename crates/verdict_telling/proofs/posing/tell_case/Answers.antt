@@ -1,4 +1,4 @@
--- By what is told of the case, or by nothing where memory is wanting before.
+-- By what is told of the case, or by nothing if memory runs out before.
 use Rattle.std.proofs.Common.{◌∙◌, [], ap, inl, subst, sym}
 use Rattle.des_base.specs.Outside.{Took}
 use Rattle.telling.proofs.Failing.{none_failed}

@@ -1,4 +1,4 @@
--- What is told of an alarm is its meaning's.
+-- What is answered of an alarm is its meaning's.
 use Rattle.std.proofs.Common.{◌∙◌, Some, refl, ap, sym}
 use Rattle.std.proofs.lemmas.Option.{slice_get_read}
 use Rattle.log_order.proofs.Meaning.{meaning_is_known, doubt_is}
