@@ -208,19 +208,22 @@ fn loads_files(rt: HostRuntime) {
     assert!(rt; loads_two(&mut MemShelf::new(rt.alloc()), &mut Vec::new(rt.alloc())));
 }
 
-// The piece, whether it is taken, what has been taken then, and how many puts have failed.
-static PUTS: [(&[u8], bool, &[u8], u64); 7] = [
-    (b"abc", true, b"abc", 1),
-    (b"defg", false, b"abc", 2),
-    (b"d", false, b"abc", 3),
-    (b"", true, b"abc", 3),
-    (b"def", true, b"abcdef", 3),
-    (b"", true, b"abcdef", 3),
-    (b"g", false, b"abcdef", 4),
+// The piece, whether it is taken, what has been taken then, and how many puts there were and how many have failed.
+static PUTS: [(&[u8], bool, &[u8], (u64, u64)); 7] = [
+    (b"abc", true, b"abc", (2, 1)),
+    (b"defg", false, b"abc", (3, 2)),
+    (b"d", false, b"abc", (4, 3)),
+    (b"", true, b"abc", (5, 3)),
+    (b"def", true, b"abcdef", (6, 3)),
+    (b"", true, b"abcdef", (7, 3)),
+    (b"g", false, b"abcdef", (8, 4)),
 ];
 
-fn puts(sink: &mut MemSink, piece: &[u8], done: bool, taken: &[u8], failures: u64) -> bool {
-    sink.put(piece).is_ok() == done && sink.taken() == taken && sink.failures() == failures
+fn puts(sink: &mut MemSink, piece: &[u8], done: bool, taken: &[u8], counts: (u64, u64)) -> bool {
+    sink.put(piece).is_ok() == done
+        && sink.taken() == taken
+        && sink.puts() == counts.0
+        && sink.failures() == counts.1
 }
 
 fn puts_all(sink: &mut MemSink) -> bool {

@@ -39,7 +39,7 @@ impl CountSink {
 }
 
 impl Sink for CountSink {
-    ghost taken = { λ s. None };
+    ghost taken = { λ s. record { bytes = None; puts = None } };
 
     ghost faults = { λ s. 0 };
 

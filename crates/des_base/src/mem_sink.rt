@@ -69,6 +69,13 @@ impl MemSink {
         self.taken.as_slice()
     }
 
+    /// How many puts there were, whether they failed or not.
+    pub fn puts(&self) -> u64
+        ensures { result ≡ self.now.calls }
+    {
+        self.calls
+    }
+
     /// How many puts have failed.
     pub fn failures(&self) -> u64
         ensures { result ≡ self.now.faults }
@@ -78,7 +85,7 @@ impl MemSink {
 }
 
 impl Sink for MemSink {
-    ghost taken = { λ s. Some s.taken };
+    ghost taken = { λ s. record { bytes = Some s.taken; puts = Some s.calls } };
 
     ghost faults = { λ s. s.faults };
 

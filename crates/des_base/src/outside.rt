@@ -1,6 +1,6 @@
 // A shelf of files and a sink of bytes, whatever stands behind them.
-ghost use Rattle.std.specs.Prelude.{◌≡◌, ℕ, ◌+◌, ◌^◌, ◌<◌, ◌≤◌, List, [], length, take, Option, None, OnOk, OnErr, IfSome, IsErrOf, option_map};
-ghost use Rattle.des_base.specs.Outside.{Rose, Took, TookFront, raised};
+ghost use Rattle.std.specs.Prelude.{◌≡◌, ℕ, ◌+◌, ◌^◌, ◌<◌, ◌≤◌, List, [], ◌∷◌, length, take, Option, None, OnOk, OnErr, IfSome, IsErrOf, option_map};
+ghost use Rattle.des_base.specs.Outside.{Output, Rose, Took, TookFront, raised};
 
 /// Why a load gave no bytes: the shelf failed, which it counts, or memory ran out.
 #[derive(Clone, Copy)]
@@ -34,8 +34,8 @@ pub struct PutFault;
 
 /// Takes bytes, piece after piece. It counts puts that fail, so that a fault has its cause.
 pub trait Sink {
-    /// The bytes that it has taken, where it tells them.
-    ghost taken: { Self → Option (List ℕ) };
+    /// The bytes that it has taken and how many puts there were, as far as it tells them.
+    ghost taken: { Self → Output };
 
     /// A count that a put that fails raises, and that no call lowers.
     ghost faults: { Self → ℕ };
@@ -45,7 +45,7 @@ pub trait Sink {
 
     /// Takes the piece. Where that fails, a front of it may have been taken.
     fn put(&mut self, piece: &[u8]) -> Result<(), PutFault>
-        ensures ok { OnOk result (Took (taken self.old) (taken self.new) piece.now) }
+        ensures ok { OnOk result (Took (taken self.old) (taken self.new) (piece.now ∷ [])) }
         ensures front { OnErr result (TookFront (taken self.old) (taken self.new) piece.now) }
         ensures never_falls { faults self.old ≤ faults self.new }
         ensures failed { OnErr result (Rose (faults self.old) (faults self.new)) }

@@ -1,10 +1,10 @@
 // A writer, such as the standard output, as a sink.
-ghost use Rattle.std.specs.Prelude.{◌≡◌, Some};
+ghost use Rattle.std.specs.Prelude.{◌≡◌, None, Some};
 
 use des_base::{PutFault, Sink};
 use std::io::Write;
 
-/// A writer as a sink. It has taken what the writer holds, as far as that is known.
+/// A writer as a sink. It has taken what the writer holds, as far as that is known. How many puts there were it doesn't say.
 #[derive(Drop)]
 pub struct OutSink<W> {
     to: W,
@@ -21,7 +21,7 @@ impl<W: Write + Drop> OutSink<W> {
 }
 
 impl<W: Write + Drop> Sink for OutSink<W> {
-    ghost taken = { λ s. W.contents s.to };
+    ghost taken = { λ s. record { bytes = W.contents s.to; puts = None } };
 
     ghost faults = { λ s. s.faults };
 

@@ -1,7 +1,6 @@
 -- What a command answers over the bytes of its files.
 use Rattle.std.proofs.Common.{◌≡◌, ◌≢◌, ◌≤◌, ◌<◌, ◌⊎◌, inl, inr, ℕ, ◌+◌, List, [], ◌∷◌, ◌++◌, length, Option, Some, None, Ok, Err, IsOkAnd, IsErrAnd, IfSome, MatchOption, refl, sym, subst, append-nil, append_assoc, arith}
 use Rattle.std.specs.Prelude.{⊤}
-use Rattle.std.specs.List.{concat}
 use Rattle.des_base.specs.CommandWords.{word_at}
 use Rattle.des_base.specs.Outside.{Took}
 use Rattle.proof_ledger.specs.Book.{BookEntry}
@@ -31,12 +30,12 @@ status_one kind (said other) status four is shown = subst (λ (k : Kind). status
 status_one kind cut status four is shown = absurd (four shown)
 status_one kind broken status four is shown = absurd is
 
-pub told : (o : Outcome) (P : (Kind × List ℕ) → Type 0) (e : Ending) → o.status ≢ 4 → IsOkAnd e (IsOne P) → HasStatus e o.status → Took o.before o.now (concat (ending_texts e)) → ShowsReply o P
+pub told : (o : Outcome) (P : (Kind × List ℕ) → Type 0) (e : Ending) → o.status ≢ 4 → IsOkAnd e (IsOne P) → HasStatus e o.status → Took o.before o.now (ending_texts e) → ShowsReply o P
 told o P (Ok t) four one shown put = record {
   reply = one.reply;
   says = one.says;
   shown = status_one one.reply.0 t.end o.status four one.ends shown;
-  put = subst (Took o.before o.now) (append-nil one.reply.1) (subst (λ (ts : List (List ℕ)). Took o.before o.now (concat ts)) one.alone put);
+  put = subst (Took o.before o.now) one.alone put;
 }
 told o P (Err stop) four one shown put = absurd one
 
@@ -190,7 +189,7 @@ over_files l words i (kind ∷ kinds) files closes t h =
           }
     ]
 
-said_by : (o : Outcome) (c : Single) (e : Ending) → (IsStopStatus o.status → ⊥) → MayAnswer o.loads o.words (One c) o.book e → HasStatus e o.status → Took o.before o.now (concat (ending_texts e)) → SaidOver o c
+said_by : (o : Outcome) (c : Single) (e : Ending) → (IsStopStatus o.status → ⊥) → MayAnswer o.loads o.words (One c) o.book e → HasStatus e o.status → Took o.before o.now (ending_texts e) → SaidOver o c
 said_by o c (Ok t) answers h shown put =
     let over = over_files o.loads o.words 1 (files_of (One c)) [] (Closes (One c) o.words o.book) t h in
     let says = within (halts (One c) o.words over.texts) t (Says (One c) o.words o.book over.texts) over.closed in
@@ -212,9 +211,9 @@ pub record ToldOver (o : Outcome) (c : Command) : Type 0 where
   pub told : Transcript
   pub says : Says c o.words o.book texts told
   pub shown : o.status ≡ status_of_end told.end
-  pub put : Took o.before o.now (concat told.texts)
+  pub put : Took o.before o.now told.texts
 
-told_by : (o : Outcome) (c : Command) (e : Ending) → (IsStopStatus o.status → ⊥) → MayAnswer o.loads o.words c o.book e → HasStatus e o.status → Took o.before o.now (concat (ending_texts e)) → ToldOver o c
+told_by : (o : Outcome) (c : Command) (e : Ending) → (IsStopStatus o.status → ⊥) → MayAnswer o.loads o.words c o.book e → HasStatus e o.status → Took o.before o.now (ending_texts e) → ToldOver o c
 told_by o c (Ok t) answers h shown put =
     let over = over_files o.loads o.words 1 (files_of c) [] (Closes c o.words o.book) t h in
     record { texts = over.texts; held = over.held; told = t; says = within (halts c o.words over.texts) t (Says c o.words o.book over.texts) over.closed; shown = shown; put = put }

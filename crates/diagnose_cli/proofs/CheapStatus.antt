@@ -34,7 +34,7 @@ record TellsPriced (o : Outcome) (q : CostAsked) (budget : ℕ) : Type 0 where
   answer : Cheap
   priced : IsPricedBy q.net q.cost q.log q.steps budget o.book answer
   shown : o.status ≡ status_of_kind (kind_of_cheap answer)
-  put : Took o.before o.now (text_of_cheap q.net q.steps answer)
+  put : Took o.before o.now (text_of_cheap q.net q.steps answer ∷ [])
 
 abbrev Saying : CostAsked → ℕ → List BookEntry → (Kind × List ℕ) → Type 0
 Saying q budget book reply = SaysCheap q.net q.cost q.log q.steps budget book reply
@@ -44,7 +44,7 @@ of_reply o q budget tells = record {
   answer = tells.says.answer;
   priced = tells.says.priced;
   shown = subst (λ (r : Kind × List ℕ). o.status ≡ status_of_kind r.0) tells.says.is tells.shown;
-  put = subst (λ (r : Kind × List ℕ). Took o.before o.now r.1) tells.says.is tells.put;
+  put = subst (λ (r : Kind × List ℕ). Took o.before o.now (r.1 ∷ [])) tells.says.is tells.put;
 }
 
 -- over the three texts that are told
@@ -71,7 +71,7 @@ module _ (o : Outcome) (q : CostAsked) (budget : ℕ) where
   Shown answer = IsPricedBy q.net q.cost q.log q.steps budget o.book answer
 
   abbrev Put : Cheap → Type 0
-  Put answer = Took o.before o.now (text_of_cheap q.net q.steps answer)
+  Put answer = Took o.before o.now (text_of_cheap q.net q.steps answer ∷ [])
 
   cheapest_of : (answer : Cheap) → 0 ≡ status_of_kind (kind_of_cheap answer) → Shown answer → Put answer → TellsCheapest o q
   cheapest_of (Found priced) is shown put = record { priced = priced; given = shown.answered.found.given; cheapest = shown.answered.found.cheapest; put = put }

@@ -1,7 +1,6 @@
 -- Each file that is too long and each fault of a text has its status.
-use Rattle.std.proofs.Common.{◌≡◌, ◌≢◌, inl, inr, ℕ, ◌+◌, ◌<◌, ◌≤◌, List, [], ◌∷◌, ◌++◌, length, Bool, nat_lt, Option, Some, None, Ok, Err, IfSome, IsOkAnd, MatchOption, IsErrAnd, refl, sym, ap, subst, append-nil}
+use Rattle.std.proofs.Common.{◌≡◌, ◌≢◌, inl, inr, ℕ, ◌+◌, ◌<◌, ◌≤◌, List, [], ◌∷◌, ◌++◌, length, Bool, nat_lt, Option, Some, None, Ok, Err, IfSome, IsOkAnd, MatchOption, IsErrAnd, refl, sym, ap, subst}
 use Rattle.std.specs.Prelude.{if◌then◌else◌, option_and_then}
-use Rattle.std.specs.List.{concat}
 use Rattle.des_base.specs.Outside.{Took}
 use Rattle.des_base.specs.CommandWords.{word_at}
 use Rattle.proof_ledger.specs.Book.{BookEntry}
@@ -11,7 +10,7 @@ use Rattle.endings.specs.declared.stop.Stop.TheVariants.{Usage, Load, Faulty, Lo
 use Rattle.endings.specs.declared.stop.FaultyText.{FaultyText}
 use Rattle.endings.specs.Transcripts.{Ending, Transcript}
 use Rattle.endings.specs.Files.{Loads, StopsAt}
-use Rattle.endings.specs.Endings.{HasStatus, status_of_stop, text_of_stop, ending_texts}
+use Rattle.endings.specs.Endings.{HasStatus, status_of_stop, texts_of_stop, ending_texts}
 use Rattle.endings.specs.Texts.{FileKind, limit_of, fault_of_text}
 use Rattle.diagnose_cli.specs.Commands.{files_of, command_of}
 use Rattle.diagnose_cli.specs.Due.{halts, Closes, InOrder, MayAnswer}
@@ -74,10 +73,10 @@ due_exact : (l : Loads) (words : List (List ℕ)) (book : List BookEntry) (o : O
 due_exact l words book None e m n h = h
 due_exact l words book (Some c) e m n h = in_order_exact l words 1 (files_of c) [] (Closes c words book) (halts c words) e (λ texts. closes_here (halts c words texts) e _) m n h
 
-row_here : (stop : Option Stop) (o : Outcome) (e : Ending) → Is e stop → HasStatus e o.status → Took o.before o.now (concat (ending_texts e)) → IfSome stop (λ stop. (o.status ≡ status_of_stop stop) × Took o.before o.now (text_of_stop stop))
+row_here : (stop : Option Stop) (o : Outcome) (e : Ending) → Is e stop → HasStatus e o.status → Took o.before o.now (ending_texts e) → IfSome stop (λ stop. (o.status ≡ status_of_stop stop) × Took o.before o.now (texts_of_stop stop))
 row_here None o e h p t = tt
 row_here (Some stop) o e h p t =
-    (subst (λ (x : Ending). HasStatus x o.status) h p, subst (Took o.before o.now) (append-nil (text_of_stop stop)) (subst (λ (x : Ending). Took o.before o.now (concat (ending_texts x))) h t))
+    (subst (λ (x : Ending). HasStatus x o.status) h p, subst (λ (x : Ending). Took o.before o.now (ending_texts x)) h t)
 
 pub stop_row : (o : Outcome) → Ends o → o.status ≢ 3 → o.status ≢ 9 → StopRow o
 stop_row o ends three nine =

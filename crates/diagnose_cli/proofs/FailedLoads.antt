@@ -1,5 +1,5 @@
 -- What a failed load says, whichever command the words call.
-use Rattle.std.proofs.Common.{◌≡◌, ◌≢◌, inl, inr, ℕ, ◌+◌, ◌≤◌, List, [], ◌∷◌, ◌++◌, length, Bool, true, false, Option, Some, None, Ok, Err, IsOkAnd, MatchOption, sym, ap, subst, arith, append-nil, IsSomeAnd}
+use Rattle.std.proofs.Common.{◌≡◌, ◌≢◌, inl, inr, ℕ, ◌+◌, ◌≤◌, List, [], ◌∷◌, ◌++◌, length, Bool, true, false, Option, Some, None, Ok, Err, IsOkAnd, MatchOption, sym, ap, subst, arith, IsSomeAnd}
 use Rattle.des_base.specs.Outside.{Took}
 use Rattle.diagnose_cli.specs.declared.command.Command.{Command}
 use Rattle.endings.specs.declared.stop.Stop.TheVariants.{Usage, Load, Faulty, Long, NoFault, Large, Memory}
@@ -7,7 +7,6 @@ use Rattle.endings.specs.declared.stop.FaultyText.{FaultyText}
 use Rattle.endings.specs.declared.stop.FaultyText.TheVariants.{Model, Log, Run, Cnf, Lrat, Cost}
 use Rattle.endings.specs.declared.ending.Kind.{Kind}
 use Rattle.endings.specs.declared.ending.Kind.TheVariants.{Done, Rejected, Absent, Undecided, Many, Nothing, Ambiguous}
-use Rattle.std.specs.List.{concat}
 use Rattle.endings.specs.Transcripts.{End, said, cut, broken, Ending, Transcript, UnlessMemory}
 use Rattle.endings.specs.Endings.{HasStatus, status_of_end, status_of_kind, status_of_faulty, ending_texts}
 use Rattle.endings.specs.Texts.{FileKind, fault_of_text}
@@ -77,12 +76,12 @@ no_load_end (said kind) p = no_load_kind kind p
 no_load_end cut p = cc
 no_load_end broken p = cc
 
-load_row_of : (o : Outcome) (e : Ending) → UnlessMemory e (Due o.loads o.words o.book e) → HasStatus e 3 → Took o.before o.now (concat (ending_texts e)) → LoadRow o
+load_row_of : (o : Outcome) (e : Ending) → UnlessMemory e (Due o.loads o.words o.book e) → HasStatus e 3 → Took o.before o.now (ending_texts e) → LoadRow o
 load_row_of o (Ok told) d p t = absurd (no_load_end told.end p)
 load_row_of o (Err Usage) d p t = absurd (omega arith)
 load_row_of o (Err (Load i)) d p t =
     let rose = rose_at o i (command_of o.words) (d (λ m. cc)) in
-    record { file = i; known = rose.0; rose = rose.1; put = subst (Took o.before o.now) (append-nil _) t }
+    record { file = i; known = rose.0; rose = rose.1; put = t }
 load_row_of o (Err (Faulty text)) d p t = absurd (no_load_text text p)
 load_row_of o (Err (Long i)) d p t = absurd (omega arith)
 load_row_of o (Err NoFault) d p t = absurd (omega arith)

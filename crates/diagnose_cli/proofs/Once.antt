@@ -1,5 +1,6 @@
 -- The run of a command, which has one reply or several.
-use Rattle.std.proofs.Common.{◌≡◌, ◌≢◌, ◌∙◌, arith, ℕ, IfErr, IfOk, List, [], ◌∷◌, Option, Some, Result, Ok, Err, refl, sym, ap, subst}
+use Rattle.std.proofs.Common.{◌≡◌, ◌≢◌, ◌∙◌, arith, ℕ, IfErr, IfOk, List, [], ◌∷◌, Some, Result, Ok, Err, refl, sym, ap, subst}
+use Rattle.des_base.specs.Outside.{Output}
 use Rattle.proof_ledger.specs.Book.{BookEntry}
 use Rattle.diagnose_cli.specs.declared.command.Command.{Command}
 use Rattle.diagnose_cli.specs.declared.command.Command.TheVariants.{One, Session}
@@ -124,7 +125,7 @@ module _ (o : Outcome) (rose : Type 0) (speaks : Speaks (StopsEmpty (Due o.loads
     ran = ran;
   }
 
-pub done : (l : Loads) (words : List (List ℕ)) (before now : Option (List ℕ)) (book : List BookEntry) (status : ℕ) (rose : Type 0)
+pub done : (l : Loads) (words : List (List ℕ)) (before now : Output) (book : List BookEntry) (status : ℕ) (rose : Type 0)
     → Speaks (StopsEmpty (Due l words book) book) (HasNotBegun words book) before now rose status → Does (outcome l words before now book status) rose
 done l words before now book status rose speaks = does (outcome l words before now book status) rose speaks
 
@@ -148,7 +149,7 @@ stop_told : (r : Result (Kind × List ℕ) Stop) (P : Type 0) (status : ℕ) →
 stop_told (Ok reply) P status left shown stop = absurd (no_reply reply.0 (subst SaysStop shown stop))
 stop_told (Err why) P status left shown stop = left (λ is. let nine = nine_of why is in between status stop (omega (arith, shown, nine)) (omega (arith, shown, nine)))
 
-pub stop_left : (r : Result (Kind × List ℕ) Stop) (P : Type 0) (before now : Option (List ℕ)) (rose : Type 0) (status : ℕ) → Puts (once r) before now rose status → IfErr r (λ stop. stop ≢ Memory → P) → SaysStop status → P
+pub stop_left : (r : Result (Kind × List ℕ) Stop) (P : Type 0) (before now : Output) (rose : Type 0) (status : ℕ) → Puts (once r) before now rose status → IfErr r (λ stop. stop ≢ Memory → P) → SaysStop status → P
 stop_left r P before now rose status puts left stop = stop_told r P status left (puts.shown stop.put (λ nine. between status stop (omega (arith, nine)) (omega (arith, nine)))) stop
 
 -- a stop of its one reply leaves an empty book, where it leaves the book as it was

@@ -1,6 +1,7 @@
 -- How a session ends, by how its rows went.
 use Rattle.std.proofs.Common.{◌≡◌, ◌≢◌, ◌≤◌, ◌<◌, ◌∙◌, ℕ, List, [], ◌∷◌, Option, Some, None, Result, Ok, Err, IsErrOf, IsOkAnd, MatchOption, refl, sym, ap, subst, arith}
 use Rattle.std.specs.Prelude.{option_map}
+use Rattle.des_base.specs.Outside.{Output}
 use Rattle.des_net.specs.Network.{Net}
 use Rattle.least_faults.specs.declared.TheConstants.{MOST_SIZE}
 use Rattle.log_csv.specs.ScriptText.{script_of}
@@ -38,7 +39,7 @@ use Rattle.diagnose_cli.proofs.StopStatus.{between}
 -- ---- by its status
 
 -- memory ran out before anything was said
-pub broke_before : (due : Ending → Type 0) (lost : Type 0) → lost → (taken : Option (List ℕ)) (rose : Type 0) → Speaks due lost taken taken rose 9
+pub broke_before : (due : Ending → Type 0) (lost : Type 0) → lost → (taken : Output) (rose : Type 0) → Speaks due lost taken taken rose 9
 broke_before due lost q taken rose = put_speaks due lost taken taken rose 9 (λ four. omega (arith, four)) (wants_memory due lost q taken taken 9 refl (nothing_taken taken))
 
 -- a put failed where the status is 4
@@ -48,7 +49,7 @@ session_fails (Err Memory) status before now is h = fails_alike _ _ before now (
 session_fails (Err Put) status before now is h = fails_alike _ _ before now (λ put. is) (λ four. refl) h
 
 -- what holds of each ending that may come holds of it
-module _ (may due : Ending → Type 0) (weaker : (e : Ending) → may e → due e) (P Q : Type 0) (lost : P → Q) (before now : Option (List ℕ)) where
+module _ (may due : Ending → Type 0) (weaker : (e : Ending) → may e → due e) (P Q : Type 0) (lost : P → Q) (before now : Output) where
   or_weaker : (e : Ending) → OrMemory may P e → OrMemory due Q e
   or_weaker e h = record { says = λ never. weaker e (h.says never); wanting = λ is. lost (h.wanting is) }
 
@@ -96,7 +97,7 @@ module _ (steps budget : ℕ) (words : List (List ℕ)) (book : List BookEntry) 
   said_in_book k is small (Ok told) says = record { comes = may_say k is small (Ok told) says; empty = tt }
   said_in_book k is small (Err stop) says = absurd says
 
-  pub session_speaks : (k : ℕ) (before now : Option (List ℕ)) (rose : Type 0) (r : Result (Unit {0}) Broken) (status : ℕ) → k ≡ question_size net no_log steps → k ≤ MOST_SIZE → status ≡ status_of_session r
+  pub session_speaks : (k : ℕ) (before now : Output) (rose : Type 0) (r : Result (Unit {0}) Broken) (status : ℕ) → k ≡ question_size net no_log steps → k ≤ MOST_SIZE → status ≡ status_of_session r
       → Speaks (MaySay net steps budget rows book) (book ≡ []) before now rose (status_of_session r) → Speaks (StopsEmpty (Closes (Session steps budget) words book (text ∷ lines ∷ [])) book) (book ≡ []) before now rose status
   session_speaks k before now rose r status is small shown speaks =
       let closes = StopsEmpty (Closes (Session steps budget) words book (text ∷ lines ∷ [])) book in
@@ -117,7 +118,7 @@ pub not_begun : (words : List (List ℕ)) (book : List BookEntry) → book ≡ [
 not_begun words book none steps budget is = none
 
 module _ (l : Loads) (words : List (List ℕ)) (steps budget : ℕ) (book : List BookEntry) (called : command_of words ≡ Some (Session steps budget)) where
-  pub plan_speaks : (net : Net) (rows : List Row) (before now : Option (List ℕ)) (rose : Type 0) (status : ℕ) (plan : IsScriptCase l.held words net rows)
+  pub plan_speaks : (net : Net) (rows : List Row) (before now : Output) (rose : Type 0) (status : ℕ) (plan : IsScriptCase l.held words net rows)
       → Speaks (StopsEmpty (Closes (Session steps budget) words book (plan.text ∷ plan.second ∷ [])) book) (book ≡ []) before now rose status → Speaks (StopsEmpty (Due l words book) book) (HasNotBegun words book) before now rose status
   plan_speaks net rows before now rose status plan speaks =
       speaks_weaker (StopsEmpty (Closes (Session steps budget) words book (plan.text ∷ plan.second ∷ [])) book) (StopsEmpty (Due l words book) book)

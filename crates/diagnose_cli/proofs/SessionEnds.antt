@@ -1,6 +1,7 @@
 -- How a session ends that has carried out some rows: finished, or cut off or broken off at a row that it came to.
-use Rattle.std.proofs.Common.{◌≡◌, ℕ, List, [], Option, Result, Ok, Err, refl, subst}
+use Rattle.std.proofs.Common.{◌≡◌, ℕ, List, [], Result, Ok, Err, refl, subst}
 use Rattle.alarm_session.specs.Session.{IsSessionBook, Stage, first_stage}
+use Rattle.des_base.specs.Outside.{Output}
 use Rattle.log_csv.specs.declared.row.Row.{Row}
 use Rattle.telling.specs.Telling.{BreaksOff, ComesTo as TellsTo, EachGoes, IsCutShort, TellsEach}
 use Rattle.telling.specs.declared.each.Broken.{Broken}
@@ -57,14 +58,14 @@ module _ {S : Type 0} (plan : S → Plan) (stage : S → Stage) (s : S) (rows : 
       }
 
   -- so it speaks as a session may
-  by_end : (before now : Option (List ℕ)) (rose : Type 0) (r : Result (Unit {0}) Broken) → EachGoes (RowTells plan stage) (RowIsUntold plan stage) s rows t before now rose r
+  by_end : (before now : Output) (rose : Type 0) (r : Result (Unit {0}) Broken) → EachGoes (RowTells plan stage) (RowIsUntold plan stage) s rows t before now rose r
       → Speaks (MaySay (plan s).net (plan s).limits.steps (plan s).limits.budget rows (stage t).book) ((stage t).book ≡ []) before now rose (status_of_session r)
   by_end before now rose (Ok done) goes = speaks_said (MaySay (plan s).net (plan s).limits.steps (plan s).limits.budget rows (stage t).book) ((stage t).book ≡ []) before now rose goes.texts Done (finished goes.texts goes.says) goes.put
   by_end before now rose (Err Memory) goes = speaks_broken (MaySay (plan s).net (plan s).limits.steps (plan s).limits.budget rows (stage t).book) ((stage t).book ≡ []) before now rose goes.texts (broken_off goes.texts goes.says) goes.put
   by_end before now rose (Err Put) goes = speaks_cut (MaySay (plan s).net (plan s).limits.steps (plan s).limits.budget rows (stage t).book) ((stage t).book ≡ []) before now rose goes.texts (cut_off goes.texts goes.says) goes.put.0 goes.put.1
 
 -- what is told and put of all rows is what a session may say
-pub rows_speak : {S : Type 0} (t : S) (plan : S → Plan) (stage : S → Stage) (s : S) (rows : List Row) (before now : Option (List ℕ)) (rose : Type 0) (r : Result (Unit {0}) Broken) → EachGoes (RowTells plan stage) (RowIsUntold plan stage) s rows t before now rose r
+pub rows_speak : {S : Type 0} (t : S) (plan : S → Plan) (stage : S → Stage) (s : S) (rows : List Row) (before now : Output) (rose : Type 0) (r : Result (Unit {0}) Broken) → EachGoes (RowTells plan stage) (RowIsUntold plan stage) s rows t before now rose r
     → stage s ≡ first_stage (plan s).net (plan s).limits.steps → IsSessionBook (plan s).net (plan s).limits.steps (stage s)
     → Speaks (MaySay (plan s).net (plan s).limits.steps (plan s).limits.budget rows (stage t).book) ((stage t).book ≡ []) before now rose (status_of_session r)
 rows_speak t plan stage s rows before now rose r goes begins asks = by_end plan stage s rows t begins asks before now rose r goes

@@ -1,6 +1,5 @@
 -- What the whole run of a session tells.
 use Rattle.std.proofs.Common.{◌≡◌, ℕ, List, [], ◌∷◌, Ok, Err, IsOkAnd, subst}
-use Rattle.std.specs.List.{concat}
 use Rattle.des_base.specs.Outside.{Took}
 use Rattle.des_net.specs.Network.{Net}
 use Rattle.log_csv.specs.ScriptText.{script_of}
@@ -17,7 +16,7 @@ use Rattle.endings.specs.Transcripts.{End, said, cut, broken, Ending}
 use Rattle.diagnose_cli.proofs.Answered.{said_in_all}
 
 -- by its status it is finished
-ended : (o : Outcome) (net : Net) (n budget : ℕ) (rows : List Row) (texts : List (List ℕ)) (end : End) → IsPut o.status → EndsSession net n budget rows o.book texts end → o.status ≡ status_of_end end → Took o.before o.now (concat texts) → TellsSession o net n budget rows
+ended : (o : Outcome) (net : Net) (n budget : ℕ) (rows : List Row) (texts : List (List ℕ)) (end : End) → IsPut o.status → EndsSession net n budget rows o.book texts end → o.status ≡ status_of_end end → Took o.before o.now texts → TellsSession o net n budget rows
 ended o net n budget rows texts (said kind) is_put says shown put = record {
   left = says.1.left;
   texts = texts;
@@ -29,7 +28,7 @@ ended o net n budget rows texts (said kind) is_put says shown put = record {
 ended o net n budget rows texts cut is_put says shown put = absurd (is_put.written shown)
 ended o net n budget rows texts broken is_put says shown put = absurd (is_put.memory shown)
 
-session_told : (o : Outcome) (net : Net) (n budget : ℕ) (rows : List Row) (e : Ending) → IsPut o.status → IsOkAnd e (IsSession net n budget rows o.book) → HasStatus e o.status → Took o.before o.now (concat (ending_texts e)) → TellsSession o net n budget rows
+session_told : (o : Outcome) (net : Net) (n budget : ℕ) (rows : List Row) (e : Ending) → IsPut o.status → IsOkAnd e (IsSession net n budget rows o.book) → HasStatus e o.status → Took o.before o.now (ending_texts e) → TellsSession o net n budget rows
 session_told o net n budget rows (Ok told) is_put says shown put = ended o net n budget rows told.texts told.end is_put says shown put
 session_told o net n budget rows (Err stop) is_put says shown put = absurd says
 

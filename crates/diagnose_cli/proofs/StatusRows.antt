@@ -82,7 +82,7 @@ record TellsFound (o : Outcome) (net : Net) (alarms : Log) (n budget : ℕ) : Ty
   found : Found
   holds : AnswersQuestion net alarms n budget o.book found
   shown : o.status ≡ status_of_kind (kind_of_found found)
-  put : Took o.before o.now (text_of_found net n found)
+  put : Took o.before o.now (text_of_found net n found ∷ [])
 
 of_reply : (o : Outcome) (net : Net) (alarms : Log) (steps budget : ℕ) → ShowsReply o (AnswersTo diagnose_question budget net alarms steps o.book) → TellsFound o net alarms steps budget
 of_reply o net alarms steps budget tells =
@@ -91,7 +91,7 @@ of_reply o net alarms steps budget tells =
       found = said.found;
       holds = said.holds;
       shown = subst (λ (r : Kind × List ℕ). o.status ≡ status_of_kind r.0) said.is tells.shown;
-      put = subst (λ (r : Kind × List ℕ). Took o.before o.now r.1) said.is tells.put;
+      put = subst (λ (r : Kind × List ℕ). Took o.before o.now (r.1 ∷ [])) said.is tells.put;
     }
 
 found_told : (o : Outcome) (steps budget : ℕ) (text alarms : List ℕ) → Ends o → CallsDiagnose o steps budget text alarms → (IsStopStatus o.status → ⊥) → TellsFound o (network_of text) (log_of alarms) steps budget
@@ -100,7 +100,7 @@ found_told o steps budget text alarms ends asks answers = of_reply o (network_of
 -- ---- by the status
 
 least_of : (o : Outcome) (net : Net) (alarms : Log) (steps budget : ℕ) (found : Found) → 0 ≡ status_of_kind (kind_of_found found) → IsDiagnosed net alarms steps budget o.book found
-    → Took o.before o.now (text_of_found net steps found) → TellsLeast o net alarms steps
+    → Took o.before o.now (text_of_found net steps found ∷ []) → TellsLeast o net alarms steps
 least_of o net alarms steps budget (Explained best) is holds put = record { best = best; given = holds.answered.found.given; least = holds.answered.found.least; put = put }
 least_of o net alarms steps budget Absent is holds put = absurd (omega arith)
 least_of o net alarms steps budget (Many best) is holds put = absurd (omega arith)
@@ -113,14 +113,14 @@ absent_of o net alarms steps budget (Many best) is holds = absurd (omega arith)
 absent_of o net alarms steps budget (Undecided lo best) is holds = absurd (omega arith)
 
 many_of : (o : Outcome) (net : Net) (alarms : Log) (steps budget : ℕ) (found : Found) → 12 ≡ status_of_kind (kind_of_found found) → IsDiagnosed net alarms steps budget o.book found
-    → Took o.before o.now (text_of_found net steps found) → TellsMany o net alarms steps
+    → Took o.before o.now (text_of_found net steps found ∷ []) → TellsMany o net alarms steps
 many_of o net alarms steps budget (Explained best) is holds put = absurd (omega arith)
 many_of o net alarms steps budget Absent is holds put = absurd (omega arith)
 many_of o net alarms steps budget (Many best) is holds put = record { best = best; given = holds.answered.found.given; many = holds.answered.found.many; put = put }
 many_of o net alarms steps budget (Undecided lo best) is holds put = absurd (omega arith)
 
 undecided_of : (o : Outcome) (net : Net) (alarms : Log) (steps budget : ℕ) (found : Found) → 11 ≡ status_of_kind (kind_of_found found) → IsDiagnosed net alarms steps budget o.book found
-    → Took o.before o.now (text_of_found net steps found) → TellsUndecided o net alarms steps budget
+    → Took o.before o.now (text_of_found net steps found ∷ []) → TellsUndecided o net alarms steps budget
 undecided_of o net alarms steps budget (Explained best) is holds put = absurd (omega arith)
 undecided_of o net alarms steps budget Absent is holds put = absurd (omega arith)
 undecided_of o net alarms steps budget (Many best) is holds put = absurd (omega arith)

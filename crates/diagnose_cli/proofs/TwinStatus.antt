@@ -34,7 +34,7 @@ record TellsTested (o : Outcome) (net : Net) (n d budget : ℕ) : Type 0 where
   answer : TwinAnswer
   tested : IsTested net fault n d budget o.book answer
   shown : o.status ≡ status_of_kind (kind_of_twin answer)
-  put : Took o.before o.now (text_of_twin net n answer)
+  put : Took o.before o.now (text_of_twin net n answer ∷ [])
 
 record NamesFault (net : Net) (word : List ℕ) (n d budget : ℕ) (book : List BookEntry) (reply : Kind × List ℕ) : Type 0 where
   fault : ℕ
@@ -57,7 +57,7 @@ of_reply o net n d budget tells =
       answer = names.says.answer;
       tested = names.says.tested;
       shown = subst (λ (r : Kind × List ℕ). o.status ≡ status_of_kind r.0) names.says.is tells.shown;
-      put = subst (λ (r : Kind × List ℕ). Took o.before o.now r.1) names.says.is tells.put;
+      put = subst (λ (r : Kind × List ℕ). Took o.before o.now (r.1 ∷ [])) names.says.is tells.put;
     }
 
 -- over the text that is told
@@ -79,20 +79,20 @@ abbrev question : (o : Outcome) (net : Net) (n d budget : ℕ) → TellsTested o
 question o net n d budget tells = record { fault = tells.fault; named = tells.named; asks = book_asks net tells.fault n d budget o.book tells.answer tells.tested }
 
 alike_of : (o : Outcome) (net : Net) (n d budget : ℕ) (tells : TellsTested o net n d budget) (answer : TwinAnswer) → 17 ≡ status_of_kind (kind_of_twin answer) → IsTested net tells.fault n d budget o.book answer
-    → Took o.before o.now (text_of_twin net n answer) → TellsTwins o net n d
+    → Took o.before o.now (text_of_twin net n answer ∷ []) → TellsTwins o net n d
 alike_of o net n d budget tells (Ambiguous faulty healthy) is tested put = record { question = question o net n d budget tells; faulty = faulty; healthy = healthy; twins = tested.told; put = put }
 alike_of o net n d budget tells Clear is tested put = absurd (omega arith)
 alike_of o net n d budget tells Undecided is tested put = absurd (omega arith)
 
 clear_of : (o : Outcome) (net : Net) (n d budget : ℕ) (tells : TellsTested o net n d budget) (answer : TwinAnswer) → 0 ≡ status_of_kind (kind_of_twin answer) → IsTested net tells.fault n d budget o.book answer
-    → Took o.before o.now (text_of_twin net n answer) → TellsNoTwins o net n d
+    → Took o.before o.now (text_of_twin net n answer ∷ []) → TellsNoTwins o net n d
 clear_of o net n d budget tells (Ambiguous faulty healthy) is tested put = absurd (omega arith)
 clear_of o net n d budget tells Clear is tested put =
     record { question = question o net n d budget tells; none = tested.told.0; refuted = closed_book net tells.fault n d budget o.book Clear tested tested.told.1; put = put }
 clear_of o net n d budget tells Undecided is tested put = absurd (omega arith)
 
 untested_of : (o : Outcome) (net : Net) (n d budget : ℕ) (tells : TellsTested o net n d budget) (answer : TwinAnswer) → 11 ≡ status_of_kind (kind_of_twin answer) → IsTested net tells.fault n d budget o.book answer
-    → Took o.before o.now (text_of_twin net n answer) → TellsUntested o net n d budget
+    → Took o.before o.now (text_of_twin net n answer ∷ []) → TellsUntested o net n d budget
 untested_of o net n d budget tells (Ambiguous faulty healthy) is tested put = absurd (omega arith)
 untested_of o net n d budget tells Clear is tested put = absurd (omega arith)
 untested_of o net n d budget tells Undecided is tested put = record {

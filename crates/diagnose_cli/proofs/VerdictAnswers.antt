@@ -1,6 +1,7 @@
 -- How `verdicts` ends, by how telling ends.
 use Rattle.std.proofs.Common.{◌≡◌, ◌≢◌, ◌≤◌, ◌<◌, ◌∙◌, inl, inr, ℕ, List, [], ◌∷◌, Option, Some, None, Result, Ok, Err, IsErrOf, MatchOption, true, false, refl, sym, ap, subst, arith}
 use Rattle.std.specs.Prelude.{⊤, option_map}
+use Rattle.des_base.specs.Outside.{Output}
 use Rattle.des_net.specs.Network.{Net}
 use Rattle.least_faults.specs.declared.TheConstants.{MOST_SIZE}
 use Rattle.log_csv.specs.LogText.{log_of}
@@ -38,7 +39,7 @@ use Rattle.diagnose_cli.proofs.StopStatus.{between}
 
 -- ---- by how telling ends
 
-module _ (net : Net) (alarms : Log) (n budget : ℕ) (book : List BookEntry) (before now : Option (List ℕ)) (rose : Type 0) where
+module _ (net : Net) (alarms : Log) (n budget : ℕ) (book : List BookEntry) (before now : Output) (rose : Type 0) where
   abbrev may : Ending → Type 0
   may = MayTell net alarms n budget book
 
@@ -98,7 +99,7 @@ module _ (steps budget : ℕ) (words : List (List ℕ)) (book : List BookEntry) 
   told_in_book small (Ok told) tells = record { comes = may_tell small (Ok told) tells; empty = tt }
   told_in_book small (Err stop) tells = absurd tells
 
-  pub judged_speaks : (before now : Option (List ℕ)) (rose : Type 0) (r : Result Told Broken) (status : ℕ) → question_size net alarms steps ≤ MOST_SIZE → status ≡ status_of_told r → TellsWhole net alarms steps budget book before now rose r → Speaks (StopsEmpty closes book) ⊤ before now rose status
+  pub judged_speaks : (before now : Output) (rose : Type 0) (r : Result Told Broken) (status : ℕ) → question_size net alarms steps ≤ MOST_SIZE → status ≡ status_of_told r → TellsWhole net alarms steps budget book before now rose r → Speaks (StopsEmpty closes book) ⊤ before now rose status
   judged_speaks before now rose r status small shown tells =
       subst (Speaks (StopsEmpty closes book) ⊤ before now rose) (sym shown)
       (speaks_weaker (MayTell net alarms steps budget book) (StopsEmpty closes book) (told_in_book small) ⊤ ⊤ (λ any. any) before now rose (status_of_told r) (told_speaks net alarms steps budget book before now rose r tells))
@@ -106,7 +107,7 @@ module _ (steps budget : ℕ) (words : List (List ℕ)) (book : List BookEntry) 
 -- ---- for the words that call it
 
 module _ (l : Loads) (words : List (List ℕ)) (steps budget : ℕ) (book : List BookEntry) (called : command_of words ≡ Some (Verdicts steps budget)) where
-  pub case_speaks : (net : Net) (alarms : Log) (before now : Option (List ℕ)) (rose : Type 0) (status : ℕ) (case : IsCase l.held words net alarms)
+  pub case_speaks : (net : Net) (alarms : Log) (before now : Output) (rose : Type 0) (status : ℕ) (case : IsCase l.held words net alarms)
       → Speaks (StopsEmpty (Closes (Verdicts steps budget) words book (case.text ∷ case.second ∷ [])) book) ⊤ before now rose status → Speaks (StopsEmpty (Due l words book) book) (HasNotBegun words book) before now rose status
   case_speaks net alarms before now rose status case speaks =
       speaks_weaker (StopsEmpty (Closes (Verdicts steps budget) words book (case.text ∷ case.second ∷ [])) book) (StopsEmpty (Due l words book) book)

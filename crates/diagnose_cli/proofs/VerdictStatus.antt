@@ -1,6 +1,6 @@
 -- What the whole run of `verdicts` tells, and what its status does.
 use Rattle.std.proofs.Common.{◌≡◌, ◌∙◌, inl, inr, ℕ, Bool, true, false, List, [], ◌∷◌, Ok, Err, refl, sym, ap, subst, arith}
-use Rattle.std.specs.List.{concat, list_any}
+use Rattle.std.specs.List.{list_any}
 use Rattle.des_base.specs.CommandWords.{word_at}
 use Rattle.des_base.specs.Outside.{Took}
 use Rattle.des_net.specs.Network.{Net}
@@ -32,12 +32,12 @@ use Rattle.diagnose_cli.proofs.Answered.{AreHeld, IsStopStatus, said_in_all, sam
 -- ---- all that is told
 
 -- by its status all was told
-ended : (o : Outcome) (net : Net) (alarms : Log) (n budget : ℕ) (texts : List (List ℕ)) (end : End) → IsPut o.status → EndsVerdicts net alarms n budget o.book texts end → o.status ≡ status_of_end end → Took o.before o.now (concat texts) → TellsInAll o net alarms n budget
+ended : (o : Outcome) (net : Net) (alarms : Log) (n budget : ℕ) (texts : List (List ℕ)) (end : End) → IsPut o.status → EndsVerdicts net alarms n budget o.book texts end → o.status ≡ status_of_end end → Took o.before o.now texts → TellsInAll o net alarms n budget
 ended o net alarms n budget texts (said kind) is_put says shown put = record { found = says.found; verdicts = says.verdicts; texts = texts; have = says.have; shown = shown ∙ ap status_of_kind says.kind_is; put = put }
 ended o net alarms n budget texts cut is_put says shown put = absurd (is_put.written shown)
 ended o net alarms n budget texts broken is_put says shown put = absurd (is_put.memory shown)
 
-told_in_all : (o : Outcome) (net : Net) (alarms : Log) (n budget : ℕ) (e : Ending) → IsPut o.status → MayTell net alarms n budget o.book e → HasStatus e o.status → Took o.before o.now (concat (ending_texts e)) → TellsInAll o net alarms n budget
+told_in_all : (o : Outcome) (net : Net) (alarms : Log) (n budget : ℕ) (e : Ending) → IsPut o.status → MayTell net alarms n budget o.book e → HasStatus e o.status → Took o.before o.now (ending_texts e) → TellsInAll o net alarms n budget
 told_in_all o net alarms n budget (Ok told) is_put says shown put = ended o net alarms n budget told.texts told.end is_put says shown put
 told_in_all o net alarms n budget (Err stop) is_put says shown put = absurd says
 

@@ -27,7 +27,7 @@ pub record TellsCheapest (o : Outcome) (q : CostAsked) : Type 0 where
   pub priced : Priced
   pub given : IsPriced q priced
   pub cheapest : IsCheapest q.net q.cost q.log q.steps priced.cost
-  pub put : Took o.before o.now (text_of_cheap q.net q.steps (Found priced))
+  pub put : Took o.before o.now (text_of_cheap q.net q.steps (Found priced) ∷ [])
 
 -- the run that is printed explains the log, and all that explains it has a total above 1,000
 pub record TellsDear (o : Outcome) (q : CostAsked) : Type 0 where
@@ -35,7 +35,7 @@ pub record TellsDear (o : Outcome) (q : CostAsked) : Type 0 where
   pub total : ℕ
   pub given : IsRunAt q run total
   pub dear : IsDear q.net q.cost q.log q.steps
-  pub put : Took o.before o.now (text_of_cheap q.net q.steps (Dear run))
+  pub put : Took o.before o.now (text_of_cheap q.net q.steps (Dear run) ∷ [])
 
 -- As many clauses were learnt as the budget allows, each of them fresh, and there is a further conflict: without a bound if no run is printed, and else within a total between both. All that explains the log has total lo at least, and a run that is printed explains it with more.
 pub record TellsUnpriced (o : Outcome) (q : CostAsked) (budget : ℕ) : Type 0 where
@@ -46,7 +46,7 @@ pub record TellsUnpriced (o : Outcome) (q : CostAsked) (budget : ℕ) : Type 0 w
   pub conflict : HasConflictAt q o.book lo best
   pub above : NeedsCost q.net q.cost q.log q.steps lo
   pub known : IfSome best (λ priced. IsPriced q priced × (lo < priced.cost))
-  pub put : Took o.before o.now (text_of_cheap q.net q.steps (Undecided lo best))
+  pub put : Took o.before o.now (text_of_cheap q.net q.steps (Undecided lo best) ∷ [])
 
 -- By the status, over whatever three texts the shelf tells.
 pub record CheapRows (o : Outcome) : Type 0 where

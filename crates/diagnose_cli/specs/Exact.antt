@@ -6,7 +6,7 @@ use Rattle.diagnose_cli.specs.declared.command.Command.{Command}
 use Rattle.endings.specs.declared.stop.Stop.{Stop}
 use Rattle.endings.specs.declared.stop.Stop.TheVariants.{Usage, Faulty, Long}
 use Rattle.endings.specs.declared.stop.FaultyText.{FaultyText}
-use Rattle.endings.specs.Endings.{status_of_stop, text_of_stop}
+use Rattle.endings.specs.Endings.{status_of_stop, texts_of_stop}
 use Rattle.endings.specs.Texts.{FileKind, limit_of, fault_of_text}
 use Rattle.diagnose_cli.specs.Commands.{files_of, command_of}
 use Rattle.diagnose_cli.specs.Due.{halts}
@@ -33,4 +33,4 @@ stop_of_command held words (Some c) = first_stop held words 1 (files_of c) [] (h
 
 -- the words and the files give the one status and the one text of a stop
 abbrev pub StopRow : Outcome → Type 0
-StopRow o = IfSome (stop_of_command o.loads.held o.words (command_of o.words)) (λ stop. (o.status ≡ status_of_stop stop) × Took o.before o.now (text_of_stop stop))
+StopRow o = IfSome (stop_of_command o.loads.held o.words (command_of o.words)) (λ stop. (o.status ≡ status_of_stop stop) × Took o.before o.now (texts_of_stop stop))

@@ -1,22 +1,22 @@
 -- What is seen of a run of the program from outside.
-use Rattle.std.specs.Prelude.{◌≡◌, ◌≢◌, ℕ, List, Option}
-use Rattle.des_base.specs.Outside.{Took}
+use Rattle.std.specs.Prelude.{◌≡◌, ◌≢◌, ℕ, List, [], ◌∷◌}
+use Rattle.des_base.specs.Outside.{Output, Took}
 use Rattle.proof_ledger.specs.Book.{BookEntry}
 use Rattle.endings.specs.declared.ending.Kind.{Kind}
 use Rattle.endings.specs.Endings.{status_of_kind}
 use Rattle.endings.specs.Files.{Loads}
 
--- the words, what the shelf holds and its counts of faults, what the sink had taken before and has taken now, the book that is left, and the status
+-- the words, what the shelf holds and its counts of faults, what the sink told before and tells now, the book that is left, and the status
 pub record Outcome : Type 0 where
   pub loads : Loads
   pub words : List (List ℕ)
-  pub before : Option (List ℕ)
-  pub now : Option (List ℕ)
+  pub before : Output
+  pub now : Output
   pub book : List BookEntry
   pub status : ℕ
 
 -- an outcome of these parts, in the order of its fields
-abbrev pub outcome : Loads → List (List ℕ) → Option (List ℕ) → Option (List ℕ) → List BookEntry → ℕ → Outcome
+abbrev pub outcome : Loads → List (List ℕ) → Output → Output → List BookEntry → ℕ → Outcome
 outcome loads words before now book status = record { loads = loads; words = words; before = before; now = now; book = book; status = status }
 
 -- memory didn't run out, and the output could be written
@@ -29,9 +29,9 @@ pub record IsUnbroken (status : ℕ) : Type 0 where
   pub loaded : status ≢ 3
   pub put : IsPut status
 
--- status and text are those of a reply of which P holds
+-- status and text are those of a reply of which P holds, and it was put by one put
 pub record ShowsReply (o : Outcome) (P : (Kind × List ℕ) → Type 0) : Type 0 where
   pub reply : Kind × List ℕ
   pub says : P reply
   pub shown : o.status ≡ status_of_kind reply.0
-  pub put : Took o.before o.now reply.1
+  pub put : Took o.before o.now (reply.1 ∷ [])

@@ -1,6 +1,5 @@
 -- What each command answers, by its words and the bytes that the shelf holds under the names of its files.
 use Rattle.std.specs.Prelude.{◌≡◌, ◌≢◌, ℕ, ◌+◌, ◌<◌, ◌≤◌, ⊤, List, [], ◌∷◌, ◌++◌, length, Option, Some, None, IfSome}
-use Rattle.std.specs.List.{concat}
 use Rattle.alarm_session.specs.Session.{Stage}
 use Rattle.des_base.specs.CommandWords.{word_at}
 use Rattle.des_base.specs.Outside.{Took}
@@ -120,7 +119,7 @@ pub record TellsSession (o : Outcome) (net : Net) (n budget : ℕ) (rows : List 
   pub replied : HasReplies net n budget rows left texts
   pub book : o.book ≡ left.book
   pub shown : o.status ≡ 0
-  pub put : Took o.before o.now (concat texts)
+  pub put : Took o.before o.now texts
 
 -- where its files can be read
 abbrev pub SessionRow : Outcome → Type 0
@@ -134,14 +133,14 @@ pub record TellsLeast (o : Outcome) (net : Net) (alarms : Log) (n : ℕ) : Type 
   pub best : Best
   pub given : IsExplanation net alarms n best
   pub least : IsLeast net alarms n best.faults
-  pub put : Took o.before o.now (text_of_found net n (Explained best))
+  pub put : Took o.before o.now (text_of_found net n (Explained best) ∷ [])
 
 -- the run that is printed explains the log, and all that explains it has more than 255 faults
 pub record TellsMany (o : Outcome) (net : Net) (alarms : Log) (n : ℕ) : Type 0 where
   pub best : Best
   pub given : IsExplanation net alarms n best
   pub many : IsMany net alarms n
-  pub put : Took o.before o.now (text_of_found net n (Many best))
+  pub put : Took o.before o.now (text_of_found net n (Many best) ∷ [])
 
 -- As many clauses were learnt as the budget allows, each of them fresh, and there is a further conflict: without a bound if no run is printed, and else within lo. By the meanings of the
 -- variables, which are no more than network, log and n allow, the book poses that question. All that explains the log has at least lo faults, and a run that is printed explains it with more.
@@ -154,7 +153,7 @@ pub record TellsUndecided (o : Outcome) (net : Net) (alarms : Log) (n budget : �
   pub conflict : HasConflict meanings o.book net alarms n (asked_last lo best)
   pub above : NeedsFaults net alarms n lo
   pub known : IfSome best (λ run. IsExplanation net alarms n run × (lo < run.faults))
-  pub put : Took o.before o.now (text_of_found net n (Undecided lo best))
+  pub put : Took o.before o.now (text_of_found net n (Undecided lo best) ∷ [])
 
 -- the words call `diagnose` with this budget, and the shelf tells these bytes of its files
 pub record CallsDiagnose (o : Outcome) (steps budget : ℕ) (text alarms : List ℕ) : Type 0 where

@@ -1,5 +1,5 @@
 -- What the whole run does.
-use Rattle.std.specs.Prelude.{◌≡◌, ◌≢◌, ◌⊎◌, ℕ, List, [], ◌≤◌, codes, None, IfSome, IsSomeAnd, Bool, true, false}
+use Rattle.std.specs.Prelude.{◌≡◌, ◌≢◌, ◌⊎◌, ℕ, List, [], ◌∷◌, ◌≤◌, codes, None, IfSome, IsSomeAnd, Bool, true, false}
 use Rattle.des_base.specs.Outside.{Rose, Took}
 use Rattle.des_base.specs.CommandWords.{word_at}
 use Rattle.telling.specs.Lines.{line_with_number}
@@ -40,7 +40,7 @@ pub record LoadRow (o : Outcome) : Type 0 where
   pub file : ℕ
   pub known : HasFile o.words file
   pub rose : RoseFor o file
-  pub put : Took o.before o.now (line_with_number (codes "LOAD ") file)
+  pub put : Took o.before o.now (line_with_number (codes "LOAD ") file ∷ [])
 
 -- by its status, whichever command the words call; rose says that the sink's count of faults rose
 pub record Ran (o : Outcome) (rose : Type 0) : Type 0 where

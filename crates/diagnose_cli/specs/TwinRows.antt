@@ -30,21 +30,21 @@ pub record TellsTwins (o : Outcome) (net : Net) (n d : ℕ) : Type 0 where
   pub faulty : List RunStep
   pub healthy : List RunStep
   pub twins : AreTwinRuns net question.fault n d faulty healthy
-  pub put : Took o.before o.now (text_of_twin net n (Ambiguous faulty healthy))
+  pub put : Took o.before o.now (text_of_twin net n (Ambiguous faulty healthy) ∷ [])
 
 -- there are no twins, and the book refutes that there are
 pub record TellsNoTwins (o : Outcome) (net : Net) (n d : ℕ) : Type 0 where
   pub question : AsksTwins o net n d
   pub none : NoTwins net question.fault n d
   pub refuted : IsClosedBook o.book
-  pub put : Took o.before o.now (text_of_twin net n Clear)
+  pub put : Took o.before o.now (text_of_twin net n Clear ∷ [])
 
 -- As many clauses were learnt as the budget allows, each of them fresh, and there is a further conflict, with nothing assumed.
 pub record TellsUntested (o : Outcome) (net : Net) (n d budget : ℕ) : Type 0 where
   pub question : AsksTwins o net n d
   pub spent : AreFresh [] o.book budget
   pub conflict : Clashes (clauses_of o.book) []
-  pub put : Took o.before o.now (text_of_twin net n Undecided)
+  pub put : Took o.before o.now (text_of_twin net n Undecided ∷ [])
 
 -- By the status, over whatever text the shelf tells. A budget of 3 to the number of variables that network, steps and what is to be seen determine decides.
 pub record TwinRows (o : Outcome) : Type 0 where

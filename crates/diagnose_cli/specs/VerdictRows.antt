@@ -1,6 +1,5 @@
 -- What each status of `verdicts` tells, by the words and the bytes that the shelf holds under the names of its files.
 use Rattle.std.specs.Prelude.{◌≡◌, ◌⊎◌, ◌≤◌, ℕ, List, [], ◌∷◌}
-use Rattle.std.specs.List.{concat}
 use Rattle.des_base.specs.Outside.{Took}
 use Rattle.des_net.specs.Network.{Net}
 use Rattle.answers.specs.declared.verdict.Verdict.{Verdict}
@@ -24,7 +23,7 @@ pub record TellsInAll (o : Outcome) (net : Net) (alarms : Log) (n budget : ℕ) 
   pub texts : List (List ℕ)
   pub have : HaveReplies net alarms n budget found (events_behind net found) o.book verdicts texts
   pub shown : o.status ≡ status_of_kind (kind_of_told (told_of found verdicts))
-  pub put : Took o.before o.now (concat texts)
+  pub put : Took o.before o.now texts
 
 -- the status is that of an answer
 abbrev pub IsAnswerStatus : ℕ → Type 0

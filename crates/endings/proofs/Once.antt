@@ -1,14 +1,13 @@
 -- A command with one reply that puts its one text.
-use Rattle.std.proofs.Common.{◌≡◌, ◌≢◌, ◌⊎◌, ◌<◌, arith, inl, inr, ℕ, IfOk, List, [], Option, Result, Ok, Err, refl, ap, subst, append-nil}
-use Rattle.std.specs.List.{concat}
+use Rattle.std.proofs.Common.{◌≡◌, ◌≢◌, ◌⊎◌, ◌<◌, arith, inl, inr, ℕ, IfOk, List, [], Result, Ok, Err, refl, ap}
 use Rattle.std.proofs.lemmas.Bool.{cases_order}
-use Rattle.des_base.specs.Outside.{Took, TookFront}
-use Rattle.telling.proofs.Taking.{cut_first}
+use Rattle.des_base.specs.Outside.{Output, Took}
+use Rattle.telling.specs.Telling.{TookCut}
 use Rattle.endings.specs.declared.ending.Kind.{Kind}
 use Rattle.endings.specs.declared.stop.Stop.{Stop}
 use Rattle.endings.specs.declared.stop.Stop.TheVariants.{Memory}
 use Rattle.endings.specs.Transcripts.{Ending, OrMemory, UnlessMemory, cut_short, once}
-use Rattle.endings.specs.Endings.{ending_texts, text_of_stop}
+use Rattle.endings.specs.Endings.{ending_texts}
 use Rattle.endings.specs.Puts.{Finishes, IsCutOff, Puts, Speaks}
 
 due_once : (may : Ending → Type 0) (Q : Type 0) → Q → (r : Result (Kind × List ℕ) Stop) → UnlessMemory r (may (once r)) → OrMemory may Q (once r)
@@ -19,10 +18,10 @@ due_once may Q q (Err stop) d = record { says = λ m. d (λ e. m (ap_err stop e)
     ap_err s e = cc
 
 -- nothing was put, since memory ran out
-pub wants_memory : (may : Ending → Type 0) (Q : Type 0) → Q → (before now : Option (List ℕ)) (status : ℕ) → status ≡ 9 → Took before now [] → Finishes (OrMemory may Q) before now status
+pub wants_memory : (may : Ending → Type 0) (Q : Type 0) → Q → (before now : Output) (status : ℕ) → status ≡ 9 → Took before now [] → Finishes (OrMemory may Q) before now status
 wants_memory may Q q before now status nine put = record { ending = Err Memory; due = record { says = λ m. absurd (m refl); wanting = λ e. q }; shown = nine; put = put }
 
-module _ (may : Ending → Type 0) (Q : Type 0) (q : Q) (r : Result (Kind × List ℕ) Stop) (before now : Option (List ℕ)) (rose : Type 0) (status : ℕ) (due : UnlessMemory r (may (once r))) (puts : Puts (once r) before now rose status) where
+module _ (may : Ending → Type 0) (Q : Type 0) (q : Q) (r : Result (Kind × List ℕ) Stop) (before now : Output) (rose : Type 0) (status : ℕ) (due : UnlessMemory r (may (once r))) (puts : Puts (once r) before now rose status) where
   put_whole : status ≢ 4 → status ≢ 9 → Finishes (OrMemory may Q) before now status
   put_whole four nine = record { ending = once r; due = due_once may Q q r due; shown = puts.shown four nine; put = puts.whole four nine }
 
@@ -39,14 +38,14 @@ module _ (may : Ending → Type 0) (Q : Type 0) (q : Q) (r : Result (Kind × Lis
     cut_off = λ four. cut_by r due cuts (puts.memory four) (puts.front four);
   }
     where
-      cut_by : (x : Result (Kind × List ℕ) Stop) → UnlessMemory x (may (once x)) → IfOk x (λ reply. may (Ok (cut_short reply))) → once x ≢ Err Memory → TookFront before now (concat (ending_texts (once x))) → IsCutOff may before now
-      cut_by (Ok reply) of cuts known front = record { ending = Ok (cut_short reply); due = cuts; told_cut = refl; stops = tt; put = cut_first before now reply.1 (subst (TookFront before now) (append-nil reply.1) front) }
+      cut_by : (x : Result (Kind × List ℕ) Stop) → UnlessMemory x (may (once x)) → IfOk x (λ reply. may (Ok (cut_short reply))) → once x ≢ Err Memory → TookCut (ending_texts (once x)) before now → IsCutOff may before now
+      cut_by (Ok reply) of cuts known front = record { ending = Ok (cut_short reply); due = cuts; told_cut = refl; stops = tt; put = front }
       cut_by (Err stop) of cuts known front = record {
         ending = Err stop;
         due = of (λ e. known (same stop e));
         told_cut = tt;
         stops = λ e. known (ap (λ (s : Stop). Err s) e);
-        put = cut_first before now (text_of_stop stop) (subst (TookFront before now) (append-nil (text_of_stop stop)) front);
+        put = front;
       }
         where
           same : (s : Stop) → ◌≡◌ {A = Result (Kind × List ℕ) Stop} (Err s) (Err Memory) → ◌≡◌ {A = Ending} (Err s) (Err Memory)

@@ -1,7 +1,6 @@
 -- A command that says several texts, by the way that it ends.
-use Rattle.std.proofs.Common.{◌≢◌, ℕ, List, Option, Ok, refl, arith}
-use Rattle.std.specs.List.{concat}
-use Rattle.des_base.specs.Outside.{Took}
+use Rattle.std.proofs.Common.{◌≢◌, ℕ, List, Ok, refl, arith}
+use Rattle.des_base.specs.Outside.{Output, Took}
 use Rattle.telling.specs.Telling.{TookCut}
 use Rattle.endings.specs.declared.ending.Kind.{Kind}
 use Rattle.endings.specs.declared.ending.Kind.TheVariants.{Done, Rejected, Absent, Undecided, Many, Nothing, Ambiguous}
@@ -19,7 +18,7 @@ not_four Many four = cc
 not_four Nothing four = cc
 not_four Ambiguous four = cc
 
-module _ (due : Ending → Type 0) (lost : Type 0) (before now : Option (List ℕ)) (rose : Type 0) where
+module _ (due : Ending → Type 0) (lost : Type 0) (before now : Output) (rose : Type 0) where
   -- its texts were put
   pub put_speaks : (status : ℕ) → status ≢ 4 → Finishes (OrMemory due lost) before now status → Speaks due lost before now rose status
   put_speaks status other h = record { ends = λ four. h; put_failed = λ four. absurd (other four); cut_off = λ four. absurd (other four) }
@@ -33,11 +32,11 @@ module _ (due : Ending → Type 0) (lost : Type 0) (before now : Option (List �
     may end says = record { says = λ never. says; wanting = λ is. cc }
 
     -- all of them, of which the last is of this kind
-    pub speaks_said : (kind : Kind) → due (Ok (record { texts = texts; end = said kind })) → Took before now (concat texts) → Speaks due lost before now rose (status_of_kind kind)
+    pub speaks_said : (kind : Kind) → due (Ok (record { texts = texts; end = said kind })) → Took before now texts → Speaks due lost before now rose (status_of_kind kind)
     speaks_said kind says put = put_speaks (status_of_kind kind) (not_four kind) (record { ending = Ok (record { texts = texts; end = said kind }); due = may (said kind) says; shown = refl; put = put })
 
     -- those before it ran out of memory
-    pub speaks_broken : due (Ok (record { texts = texts; end = broken })) → Took before now (concat texts) → Speaks due lost before now rose 9
+    pub speaks_broken : due (Ok (record { texts = texts; end = broken })) → Took before now texts → Speaks due lost before now rose 9
     speaks_broken says put = put_speaks 9 (λ four. omega (arith, four)) (record { ending = Ok (record { texts = texts; end = broken }); due = may broken says; shown = refl; put = put })
 
     -- those before one that couldn't be put whole, and of this a front

@@ -68,7 +68,12 @@ text_of_stop NoFault = codes "NOFAULT\n"
 text_of_stop (Large size) = line_with_number (codes "LARGE ") size
 text_of_stop Memory = []
 
--- the texts of an ending, in the order in which they are put
+-- the texts of a stop: its one text, and none where memory is wanting
+abbrev pub texts_of_stop : Stop → List (List ℕ)
+texts_of_stop Memory = []
+texts_of_stop stop = text_of_stop stop ∷ []
+
+-- the texts of an ending, in the order in which they are put, each by a put of its own
 abbrev pub ending_texts : Ending → List (List ℕ)
 ending_texts (Ok told) = told.texts
-ending_texts (Err stop) = text_of_stop stop ∷ []
+ending_texts (Err stop) = texts_of_stop stop

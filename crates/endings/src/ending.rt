@@ -68,7 +68,7 @@ impl Reply {
     }
 }
 
-/// Puts the text of an ending, and returns its status. Out of memory it puts nothing.
+/// Puts the text of an ending by one put, and returns its status. Out of memory it puts nothing.
 #[tactic(auto, using(telling::proofs::Taking::nothing_taken, crate::proofs::Putting::one_text))]
 pub fn put_once<S: Sink>(alloc: Global, ending: Result<Reply, Stop>, out: &mut S) -> u8
     ensures puts { Puts (once ending) (S.taken out.old) (S.taken out.new) (Rose (S.faults out.old) (S.faults out.new)) result }

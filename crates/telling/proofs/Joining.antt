@@ -1,7 +1,7 @@
 -- Some items were told, and then further ones.
 use Rattle.std.proofs.Common.{◌≡◌, ◌∙◌, ℕ, List, [], ◌∷◌, ◌++◌, Option, Some, None, Result, Ok, Err, IsErrAnd, refl, sym, ap, subst, append-nil, append_assoc}
 use Rattle.std.specs.Option.{option_to_list}
-use Rattle.des_base.specs.Outside.{Took, TookFront}
+use Rattle.des_base.specs.Outside.{Output, Took, TookFront}
 use Rattle.telling.specs.Telling.{ComesTo, EachGoes, TellsEach}
 use Rattle.telling.specs.declared.each.Broken.{Broken}
 use Rattle.telling.specs.declared.each.Broken.TheVariants.{Memory, Put}
@@ -36,10 +36,10 @@ comes_more goes s m t items more behind item texts others first then = record {
 }
 
 module _ {S I : Type 0} (goes : S → I → S → Option (List ℕ) → Type 0) (undone : S → I → S → Type 0) where
-  pub nothing_told : (s : S) (taken : Option (List ℕ)) (rose : Type 0) → EachGoes goes undone s [] s taken taken rose (Ok tt)
+  pub nothing_told : (s : S) (taken : Output) (rose : Type 0) → EachGoes goes undone s [] s taken taken rose (Ok tt)
   nothing_told s taken rose = record { texts = []; says = (refl, refl); put = nothing_taken taken }
 
-  module _ (s m t : S) (items more : List I) (before mid now : Option (List ℕ)) (rose later all : Type 0) (so_far : EachGoes goes undone s items m before mid rose (Ok tt)) where
+  module _ (s m t : S) (items more : List I) (before mid now : Output) (rose later all : Type 0) (so_far : EachGoes goes undone s items m before mid rose (Ok tt)) where
     -- all of them
     pub told_more : (done : Unit {0}) → EachGoes goes undone m more t mid now later (Ok done) → EachGoes goes undone s (items ++ more) t before now all (Ok tt)
     told_more done then = record {
@@ -82,22 +82,22 @@ module _ {S I : Type 0} (goes : S → I → S → Option (List ℕ) → Type 0) 
 -- ---- one item
 
 module _ {S I : Type 0} (goes : S → I → S → Option (List ℕ) → Type 0) (undone : S → I → S → Type 0) (s : S) (item : I) (t : S) where
-  pub put_whole : (text : List ℕ) (before now : Option (List ℕ)) (rose : Type 0) → goes s item t (Some text) → Took before now text → EachGoes goes undone s (item ∷ []) t before now rose (Ok tt)
-  put_whole text before now rose told put = record { texts = text ∷ []; says = tells_one goes s item t (Some text) told; put = subst (Took before now) (sym (append-nil text)) put }
+  pub put_whole : (text : List ℕ) (before now : Output) (rose : Type 0) → goes s item t (Some text) → Took before now (text ∷ []) → EachGoes goes undone s (item ∷ []) t before now rose (Ok tt)
+  put_whole text before now rose told put = record { texts = text ∷ []; says = tells_one goes s item t (Some text) told; put = put }
 
-  pub put_none : (taken : Option (List ℕ)) (rose : Type 0) → goes s item t None → EachGoes goes undone s (item ∷ []) t taken taken rose (Ok tt)
+  pub put_none : (taken : Output) (rose : Type 0) → goes s item t None → EachGoes goes undone s (item ∷ []) t taken taken rose (Ok tt)
   put_none taken rose told = record { texts = []; says = tells_one goes s item t None told; put = nothing_taken taken }
 
   -- it is the one that was come to
   comes_to_it : ComesTo goes s (item ∷ []) item s []
   comes_to_it = record { front = []; others = []; split = refl; told = (refl, refl) }
 
-  pub put_cut : (text : List ℕ) (before now : Option (List ℕ)) (rose : Type 0) → goes s item t (Some text) → TookFront before now text → rose → EachGoes goes undone s (item ∷ []) t before now rose (Err Put)
+  pub put_cut : (text : List ℕ) (before now : Output) (rose : Type 0) → goes s item t (Some text) → TookFront before now text → rose → EachGoes goes undone s (item ∷ []) t before now rose (Err Put)
   put_cut text before now rose told front failed = record {
     texts = text ∷ [];
     says = record { item = item; mid = s; earlier = []; last = text; comes = comes_to_it; told = told; are = refl };
     put = (failed, cut_first before now text front);
   }
 
-  pub put_lost : (taken : Option (List ℕ)) (rose : Type 0) → undone s item t → EachGoes goes undone s (item ∷ []) t taken taken rose (Err Memory)
+  pub put_lost : (taken : Output) (rose : Type 0) → undone s item t → EachGoes goes undone s (item ∷ []) t taken taken rose (Err Memory)
   put_lost taken rose untold = record { texts = []; says = record { item = item; mid = s; comes = comes_to_it; untold = untold }; put = nothing_taken taken }

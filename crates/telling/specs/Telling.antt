@@ -1,8 +1,7 @@
 -- What is told of items one after another: the stages that it passes through, the texts, what a sink took of these, and whether a put failed.
-use Rattle.std.specs.Prelude.{◌≡◌, ℕ, List, [], ◌∷◌, ◌++◌, take, Option, Some, IfSome, option_map, Result, Ok, Err}
-use Rattle.std.specs.List.{concat}
+use Rattle.std.specs.Prelude.{◌≡◌, ℕ, List, [], ◌∷◌, ◌++◌, Option, Some, option_map, Result, Ok, Err}
 use Rattle.std.specs.Option.{option_to_list}
-use Rattle.des_base.specs.Outside.{Took, raised}
+use Rattle.des_base.specs.Outside.{Output, Took, TookFront, raised}
 use Rattle.telling.specs.declared.each.Broken.{Broken}
 use Rattle.telling.specs.declared.each.Broken.TheVariants.{Memory, Put}
 
@@ -47,22 +46,24 @@ TellsUpTo goes undone s items t texts (Err Put) = IsCutShort goes s items t text
 -- ---- what is taken
 
 -- all texts were taken but the last one, and of this a front
-pub record TookCut (texts : List (List ℕ)) (before now : Option (List ℕ)) : Type 0 where
+pub record TookCut (texts : List (List ℕ)) (before now : Output) : Type 0 where
   pub earlier : List (List ℕ)
   pub last : List ℕ
+  pub mid : Output
   pub are : texts ≡ earlier ++ last ∷ []
-  pub put : IfSome before (λ b. (count : ℕ) × (now ≡ Some ((b ++ concat earlier) ++ take count last)))
+  pub whole : Took before mid earlier
+  pub front : TookFront mid now last
 
 -- What a sink took of the texts, by the way that it ends: all, but where a put failed. Here rose says that the sink's count of faults rose.
-abbrev pub TookTexts : List (List ℕ) → Option (List ℕ) → Option (List ℕ) → Type 0 → Result (Unit {0}) Broken → Type 0
-TookTexts texts before now rose (Ok done) = Took before now (concat texts)
-TookTexts texts before now rose (Err Memory) = Took before now (concat texts)
+abbrev pub TookTexts : List (List ℕ) → Output → Output → Type 0 → Result (Unit {0}) Broken → Type 0
+TookTexts texts before now rose (Ok done) = Took before now texts
+TookTexts texts before now rose (Err Memory) = Took before now texts
 TookTexts texts before now rose (Err Put) = rose × TookCut texts before now
 
 -- ---- both
 
 -- texts are said of the items, and taken, by the way that it ends
-pub record EachGoes {S I : Type 0} (goes : S → I → S → Option (List ℕ) → Type 0) (undone : S → I → S → Type 0) (s : S) (items : List I) (t : S) (before now : Option (List ℕ)) (rose : Type 0) (result : Result (Unit {0}) Broken) : Type 0 where
+pub record EachGoes {S I : Type 0} (goes : S → I → S → Option (List ℕ) → Type 0) (undone : S → I → S → Type 0) (s : S) (items : List I) (t : S) (before now : Output) (rose : Type 0) (result : Result (Unit {0}) Broken) : Type 0 where
   pub texts : List (List ℕ)
   pub says : TellsUpTo goes undone s items t texts result
   pub put : TookTexts texts before now rose result

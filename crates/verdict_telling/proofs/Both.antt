@@ -1,7 +1,6 @@
 -- What was found is told first, and then the verdicts.
 use Rattle.std.proofs.Common.{◌≡◌, ◌≤◌, ◌∙◌, inl, inr, ℕ, ◌+◌, Bool, List, [], ◌∷◌, length, Option, Result, Ok, Err, refl, sym, ap, subst, append-nil, length-append}
-use Rattle.std.specs.List.{concat}
-use Rattle.des_base.specs.Outside.{Took}
+use Rattle.des_base.specs.Outside.{Output, Took}
 use Rattle.des_net.specs.Network.{Net}
 use Rattle.fault_verdicts.proofs.Calling.{best_run}
 use Rattle.fault_verdicts.proofs.Ready.{ready_at_first}
@@ -82,7 +81,7 @@ none_follow net log n budget (Undecided lo best) book = record { book = refl; no
 alone : (net : Net) (log : Log) (n budget : ℕ) (found : Found) (book : List BookEntry) → IsDiagnosed net log n budget book found → HaveReplies net log n budget found [] book [] (text_of_found net n found ∷ [])
 alone net log n budget found book diagnosed = record { front = book; diagnosed = diagnosed; later = []; follows = none_follow net log n budget found book; are = refl }
 
-module _ (net : Net) (log : Log) (n budget : ℕ) (book : List BookEntry) (before now : Option (List ℕ)) (rose : Type 0) where
+module _ (net : Net) (log : Log) (n budget : ℕ) (book : List BookEntry) (before now : Output) (rose : Type 0) where
   -- nothing is to be judged
   pub said_alone : (found : Found) (told : Told) → events_behind net found ≡ [] → told ≡ told_of found [] → TellsFound net log n budget book before now rose (Ok found) → TellsWhole net log n budget book before now rose (Ok told)
   said_alone found told none is tells = record {
@@ -91,7 +90,7 @@ module _ (net : Net) (log : Log) (n budget : ℕ) (book : List BookEntry) (befor
     texts = text_of_found net n found ∷ [];
     have = subst (λ events. HaveReplies net log n budget found events book [] (text_of_found net n found ∷ [])) (sym none) (alone net log n budget found book tells.0);
     told_is = is;
-    put = subst (Took before now) (sym (append-nil (text_of_found net n found))) tells.1;
+    put = tells.1;
   }
 
   -- it came to no verdict
@@ -111,16 +110,13 @@ module _ (net : Net) (log : Log) (n budget : ℕ) (book : List BookEntry) (befor
 
   -- the reply that tells what was found
   pub puts_found : (found : Found) (result : Result Found Broken) → IsDiagnosed net log n budget book found → PutsFound (text_of_found net n found) found before now rose result → TellsFound net log n budget book before now rose result
-  puts_found found (Ok same) diagnosed puts = (subst (IsDiagnosed net log n budget book) (sym puts.0) diagnosed, subst (λ f. Took before now (text_of_found net n f)) (sym puts.0) puts.1)
+  puts_found found (Ok same) diagnosed puts = (subst (IsDiagnosed net log n budget book) (sym puts.0) diagnosed, subst (λ f. Took before now (text_of_found net n f ∷ [])) (sym puts.0) puts.1)
   puts_found found (Err Memory) diagnosed puts = puts
   puts_found found (Err Put) diagnosed puts = (puts.0, found, diagnosed, puts.1)
 
 -- ---- and the verdicts
 
-module _ (net : Net) (log : Log) (n budget : ℕ) (best : Best) (front book : List BookEntry) (before mid now : Option (List ℕ)) (some later all : Type 0) (first : TellsFound net log n budget front before mid some (Ok (Explained best))) where
-  taken_first : Took before mid (concat (text_of_found net n (Explained best) ∷ []))
-  taken_first = subst (Took before mid) (sym (append-nil (text_of_found net n (Explained best)))) first.1
-
+module _ (net : Net) (log : Log) (n budget : ℕ) (best : Best) (front book : List BookEntry) (before mid now : Output) (some later all : Type 0) (first : TellsFound net log n budget front before mid some (Ok (Explained best))) where
   then_judged : (r : Result Bool Broken) (result : Result Told Broken) → TellsVerdicts (matter_behind net log n budget best) front book mid now later r → HasJudged r result → (later → all) → TellsWhole net log n budget book before now all result
   then_judged (Ok open_left) result tells is rises = subst (TellsWhole net log n budget book before now all) (sym is) (record {
     found = Explained best;
@@ -128,7 +124,7 @@ module _ (net : Net) (log : Log) (n budget : ℕ) (best : Best) (front book : Li
     texts = text_of_found net n (Explained best) ∷ tells.texts;
     have = record { front = front; diagnosed = first.0; later = tells.texts; follows = record { others = []; ordered = sym (append-nil (fault_events net)); replied = tells.replied }; are = refl };
     told_is = ap Judged tells.left;
-    put = took_texts before mid now (text_of_found net n (Explained best) ∷ []) tells.texts taken_first tells.put;
+    put = took_texts before mid now (text_of_found net n (Explained best) ∷ []) tells.texts first.1 tells.put;
   })
   then_judged (Err Memory) result tells is rises = subst (TellsWhole net log n budget book before now all) (sym is) (inr (record {
     found = Explained best;
@@ -138,7 +134,7 @@ module _ (net : Net) (log : Log) (n budget : ℕ) (best : Best) (front book : Li
     mid = tells.mid;
     have = record { front = front; diagnosed = first.0; later = tells.texts; follows = tells.front; are = refl };
     grown = tells.grown;
-    put = took_texts before mid now (text_of_found net n (Explained best) ∷ []) tells.texts taken_first tells.put;
+    put = took_texts before mid now (text_of_found net n (Explained best) ∷ []) tells.texts first.1 tells.put;
   }))
   then_judged (Err Put) result tells is rises = subst (TellsWhole net log n budget book before now all) (sym is) (
     rises tells.0,
@@ -148,7 +144,7 @@ module _ (net : Net) (log : Log) (n budget : ℕ) (best : Best) (front book : Li
       verdicts = tells.1.verdicts;
       texts = text_of_found net n (Explained best) ∷ tells.1.texts;
       have = record { front = front; diagnosed = first.0; later = tells.1.texts; follows = tells.1.front; are = refl };
-      put = took_cut before mid now (text_of_found net n (Explained best) ∷ []) tells.1.texts taken_first tells.1.put;
+      put = took_cut before mid now (text_of_found net n (Explained best) ∷ []) tells.1.texts first.1 tells.1.put;
     },
   )
 

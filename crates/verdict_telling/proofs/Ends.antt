@@ -1,11 +1,11 @@
 -- What is told of all fault events, by how it ends.
-use Rattle.std.proofs.Common.{◌≡◌, ◌∙◌, inl, inr, ℕ, ◌<◌, ◌||◌, Bool, true, false, List, [], ◌∷◌, ◌++◌, length, Contains, Option, Some, Result, Ok, Err, OnErr, refl, sym, ap, subst, arith, append-nil, append_assoc}
+use Rattle.std.proofs.Common.{◌≡◌, ◌∙◌, inl, inr, ℕ, ◌<◌, ◌||◌, Bool, true, false, List, [], ◌∷◌, ◌++◌, length, Contains, Some, Result, Ok, Err, OnErr, refl, sym, ap, subst, arith, append-nil, append_assoc}
 use Rattle.std.proofs.lemmas.List.Elements.{Contains-append_left as append_left}
 use Rattle.std.specs.List.{list_any}
 use Rattle.std.specs.Option.{option_to_list}
 use Rattle.des_base.proofs.Elements.{here_first, here_later, filter_from}
 use Rattle.des_base.specs.Lists.{numbers_below}
-use Rattle.des_base.specs.Outside.{Took}
+use Rattle.des_base.specs.Outside.{Output, Took}
 use Rattle.des_net.specs.Network.{Net, is_fault}
 use Rattle.fault_verdicts.specs.Judges.{IsEventJudged, IsLeftUnjudged, Matter}
 use Rattle.answers.specs.declared.verdict.Verdict.{Verdict}
@@ -86,7 +86,7 @@ leaves_none m [] old new same = same
 leaves_none m (e ∷ others) old new same = inl (inl same)
 
 -- however it ends, fault events were asked about in order
-pub asked_in_order : (m : Matter) (old new : List BookEntry) (before now : Option (List ℕ)) (rose : Type 0) (result : Result Bool Broken) → TellsVerdicts m old new before now rose result → AreAskedInOrder m old new
+pub asked_in_order : (m : Matter) (old new : List BookEntry) (before now : Output) (rose : Type 0) (result : Result Bool Broken) → TellsVerdicts m old new before now rose result → AreAskedInOrder m old new
 asked_in_order m old new before now rose (Ok open_left) tells = record {
   events = fault_events m.net;
   others = [];
@@ -117,7 +117,7 @@ asked_in_order m old new before now rose (Err Put) tells = record {
 
 -- ---- by how it ends
 
-module _ {R : Type 0} (s t : VerdictTeller R) (none_left : s.open_left ≡ false) (before now : Option (List ℕ)) (rose : Type 0) where
+module _ {R : Type 0} (s t : VerdictTeller R) (none_left : s.open_left ≡ false) (before now : Output) (rose : Type 0) where
   abbrev m : Matter
   m = s.judge.matter
 
@@ -189,7 +189,7 @@ module _ {R : Type 0} (s t : VerdictTeller R) (none_left : s.open_left ≡ false
 
 -- ---- from the first stage
 
-pub told_from : {R : Type 0} (s t : VerdictTeller R) (m : Matter) (old new : List BookEntry) (before now : Option (List ℕ)) (rose : Type 0) (told : Result (Unit {0}) Broken) (result : Result Bool Broken) → s.judge.matter ≡ m → s.judge.book ≡ old → new ≡ t.judge.book → TellsOfAll s t before now rose told
+pub told_from : {R : Type 0} (s t : VerdictTeller R) (m : Matter) (old new : List BookEntry) (before now : Output) (rose : Type 0) (told : Result (Unit {0}) Broken) (result : Result Bool Broken) → s.judge.matter ≡ m → s.judge.book ≡ old → new ≡ t.judge.book → TellsOfAll s t before now rose told
     → HasTold told t.open_left result → TellsVerdicts m old new before now rose result
 told_from s t m old new before now rose told result same first last tells is =
     subst (λ (book : List BookEntry). TellsVerdicts m old book before now rose result) (sym last)

@@ -1,6 +1,7 @@
 -- How the book grows while fault events are judged and told: for each of them by no more learnt clauses than the budget says.
 use Rattle.std.proofs.Common.{◌≡◌, ◌≤◌, ◌+◌, ◌*◌, ◌∙◌, inl, inr, ℕ, List, [], ◌∷◌, ◌++◌, length, Option, Some, Result, Ok, Err, refl, sym, ap, subst, arith, append_assoc, length-append}
 use Rattle.std.proofs.Math.Nat.{suc-mul, mul-le-mul_right}
+use Rattle.des_base.specs.Outside.{Output}
 use Rattle.des_net.specs.Network.{Net}
 use Rattle.fault_verdicts.specs.Judges.{IsEventJudged, Matter}
 use Rattle.answers.specs.declared.verdict.Verdict.{Verdict}
@@ -90,7 +91,7 @@ told_then {R} count s mid t (e ∷ events) texts (next, first, rest, here, furth
     more_grow (count + length events + 1) (count + length (e ∷ events)) s t (omega arith) (one_more (count + length events) s next t one.0 one.1 others)
 
 -- by how it ends
-pub each_grows : {R : Type 0} (s t : VerdictTeller R) (events : List ℕ) (before now : Option (List ℕ)) (rose : Type 0) (r : Result (Unit {0}) Broken) → EachGoes TellsOf IsNotTold s events t before now rose r → Grows (length events) s t
+pub each_grows : {R : Type 0} (s t : VerdictTeller R) (events : List ℕ) (before now : Output) (rose : Type 0) (r : Result (Unit {0}) Broken) → EachGoes TellsOf IsNotTold s events t before now rose r → Grows (length events) s t
 each_grows s t events before now rose (Ok done) goes =
     more_grow (0 + length events) (length events) s t (omega arith) (told_then 0 s t t events goes.texts goes.says (none_grow t t refl))
 each_grows {R} s t events before now rose (Err Memory) goes =
@@ -111,10 +112,10 @@ each_grows {R} s t events before now rose (Err Put) goes =
     more_grow (0 + 1 + length comes.front) (length events) s t (omega (arith, size, all)) (told_then (0 + 1) s mid t comes.front goes.says.earlier comes.told last)
 
 -- of the fault events of a network
-pub list_grows : {R : Type 0} (s t : VerdictTeller R) (net : Net) (events : List ℕ) (before now : Option (List ℕ)) (rose : Type 0) (r : Result (Unit {0}) Broken) → events ≡ fault_events net → EachGoes TellsOf IsNotTold s events t before now rose r
+pub list_grows : {R : Type 0} (s t : VerdictTeller R) (net : Net) (events : List ℕ) (before now : Output) (rose : Type 0) (r : Result (Unit {0}) Broken) → events ≡ fault_events net → EachGoes TellsOf IsNotTold s events t before now rose r
     → HasGrownWithin (length (fault_events net) * s.judge.matter.budget) s.judge.book t.judge.book
 list_grows s t net events before now rose r is goes = subst (λ (es : List ℕ). HasGrownWithin (length es * s.judge.matter.budget) s.judge.book t.judge.book) is (each_grows s t events before now rose r goes).grown
 
 -- and the same is judged
-pub list_stays : {R : Type 0} (s t : VerdictTeller R) (events : List ℕ) (before now : Option (List ℕ)) (rose : Type 0) (r : Result (Unit {0}) Broken) → EachGoes TellsOf IsNotTold s events t before now rose r → t.judge.matter ≡ s.judge.matter
+pub list_stays : {R : Type 0} (s t : VerdictTeller R) (events : List ℕ) (before now : Output) (rose : Type 0) (r : Result (Unit {0}) Broken) → EachGoes TellsOf IsNotTold s events t before now rose r → t.judge.matter ≡ s.judge.matter
 list_stays s t events before now rose r goes = (each_grows s t events before now rose r goes).stays

@@ -1,7 +1,8 @@
 -- What is left in the book behind what was found.
-use Rattle.std.proofs.Common.{◌≡◌, ◌*◌, ◌∙◌, ℕ, inl, inr, Bool, Option, Result, List, [], length, count_by, refl, sym, ap, subst, arith, append-nil}
+use Rattle.std.proofs.Common.{◌≡◌, ◌*◌, ◌∙◌, ℕ, inl, inr, Bool, Result, List, [], length, count_by, refl, sym, ap, subst, arith, append-nil}
 use Rattle.answers.specs.declared.found.Best.{Best}
 use Rattle.answers.specs.declared.found.Found.TheVariants.{Explained}
+use Rattle.des_base.specs.Outside.{Output}
 use Rattle.des_net.specs.Network.{Net}
 use Rattle.fault_verdicts.proofs.Riders.{asked_alone, asked_at_last}
 use Rattle.fault_verdicts.specs.Judges.{Matter}
@@ -83,7 +84,7 @@ pub in_order_alone : (net : Net) (log : Log) (n budget : ℕ) (book : List BookE
 in_order_alone net log n budget book question = record { first = book; question = question; behind = inl refl }
 
 -- and behind it what was told on fault events, within the steps of the parts
-pub in_order_behind : (net : Net) (log : Log) (n steps budget : ℕ) (best : Best) (first book : List BookEntry) (before now : Option (List ℕ)) (rose : Type 0) (result : Result Bool Broken) → steps ≡ n → HasQuestion net log n (HasAskedWithin budget) first → IsDiagnosed net log n budget first (Explained best)
+pub in_order_behind : (net : Net) (log : Log) (n steps budget : ℕ) (best : Best) (first book : List BookEntry) (before now : Output) (rose : Type 0) (result : Result Bool Broken) → steps ≡ n → HasQuestion net log n (HasAskedWithin budget) first → IsDiagnosed net log n budget first (Explained best)
     → TellsVerdicts (matter_behind net log steps budget best) first book before now rose result → StandsInOrder net log n budget book
 in_order_behind net log n steps budget best first book before now rose result same question diagnosed tells = record {
   first = first;

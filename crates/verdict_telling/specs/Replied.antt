@@ -1,7 +1,7 @@
 -- The replies on fault events that were judged one after another, and how telling them ends.
-use Rattle.std.specs.Prelude.{◌≡◌, ℕ, Bool, true, false, List, [], ◌∷◌, ◌++◌, Option, Result, Ok, Err}
-use Rattle.std.specs.List.{concat, list_any}
-use Rattle.des_base.specs.Outside.{Took}
+use Rattle.std.specs.Prelude.{◌≡◌, ℕ, Bool, true, false, List, [], ◌∷◌, ◌++◌, Result, Ok, Err}
+use Rattle.std.specs.List.{list_any}
+use Rattle.des_base.specs.Outside.{Output, Took}
 use Rattle.des_net.specs.Network.{Net}
 use Rattle.fault_verdicts.specs.Judges.{AreJudged, IsLeftUnjudged, Matter}
 use Rattle.answers.specs.declared.found.Best.{Best}
@@ -44,12 +44,12 @@ pub record AreFirstJudged (m : Matter) (old new : List BookEntry) (events : List
   pub replied : AreReplied m events old new verdicts texts
 
 -- All were, their replies were taken, and it is told whether some event was left open.
-pub record IsAllTold (m : Matter) (old new : List BookEntry) (before now : Option (List ℕ)) (open_left : Bool) : Type 0 where
+pub record IsAllTold (m : Matter) (old new : List BookEntry) (before now : Output) (open_left : Bool) : Type 0 where
   pub verdicts : List Verdict
   pub texts : List (List ℕ)
   pub replied : AreReplied m (fault_events m.net) old new verdicts texts
   pub left : open_left ≡ list_any is_undecided verdicts
-  pub put : Took before now (concat texts)
+  pub put : Took before now texts
 
 -- For the next event a question was left open at most, or answered. Where there is none, nothing was put.
 abbrev pub LeavesNext : Matter → List ℕ → List BookEntry → List BookEntry → Type 0
@@ -67,7 +67,7 @@ pub record AreAskedInOrder (m : Matter) (old new : List BookEntry) : Type 0 wher
   pub next : LeavesNext m others mid new
 
 -- It ran out of memory behind the replies on some of them, which were taken. For the next event the book has at most what its question put.
-pub record IsOutOfMemory (m : Matter) (old new : List BookEntry) (before now : Option (List ℕ)) : Type 0 where
+pub record IsOutOfMemory (m : Matter) (old new : List BookEntry) (before now : Output) : Type 0 where
   pub events : List ℕ
   pub verdicts : List Verdict
   pub texts : List (List ℕ)
@@ -75,10 +75,10 @@ pub record IsOutOfMemory (m : Matter) (old new : List BookEntry) (before now : O
   pub front : AreFirstJudged m old mid events verdicts texts
   pub grown : HasGrownWithin m.budget mid new
   pub next : LeavesNext m front.others mid new
-  pub put : Took before now (concat texts)
+  pub put : Took before now texts
 
 -- The last reply couldn't be put whole. The events up to this one were judged, and none behind it.
-pub record IsCutThere (m : Matter) (old new : List BookEntry) (before now : Option (List ℕ)) : Type 0 where
+pub record IsCutThere (m : Matter) (old new : List BookEntry) (before now : Output) : Type 0 where
   pub events : List ℕ
   pub verdicts : List Verdict
   pub texts : List (List ℕ)
@@ -86,7 +86,7 @@ pub record IsCutThere (m : Matter) (old new : List BookEntry) (before now : Opti
   pub put : TookCut texts before now
 
 -- by how telling ends; rose says that the sink's count of faults rose
-abbrev pub TellsVerdicts : Matter → List BookEntry → List BookEntry → Option (List ℕ) → Option (List ℕ) → Type 0 → Result Bool Broken → Type 0
+abbrev pub TellsVerdicts : Matter → List BookEntry → List BookEntry → Output → Output → Type 0 → Result Bool Broken → Type 0
 TellsVerdicts m old new before now rose (Ok open_left) = IsAllTold m old new before now open_left
 TellsVerdicts m old new before now rose (Err Memory) = IsOutOfMemory m old new before now
 TellsVerdicts m old new before now rose (Err Put) = rose × IsCutThere m old new before now

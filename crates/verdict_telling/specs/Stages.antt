@@ -1,5 +1,6 @@
 -- How the verdict on each event is told, from one stage of a judge to the next.
 use Rattle.std.specs.Prelude.{◌≡◌, ◌⊎◌, ◌<◌, ◌||◌, ℕ, Bool, true, List, length, Option, None, Some, Result, Ok, Err}
+use Rattle.des_base.specs.Outside.{Output}
 use Rattle.des_net.specs.Network.{is_fault}
 use Rattle.fault_verdicts.specs.Judges.{IsEventJudged, IsLeftUnjudged}
 use Rattle.answers.specs.declared.verdict.Verdict.{Verdict}
@@ -39,5 +40,5 @@ HasTold (Ok done) open_left result = result ≡ Ok open_left
 HasTold (Err broken) open_left result = result ≡ Err broken
 
 -- from stage to stage all fault events were told of, or those that it came to
-abbrev pub TellsOfAll : {R : Type 0} → VerdictTeller R → VerdictTeller R → Option (List ℕ) → Option (List ℕ) → Type 0 → Result (Unit {0}) Broken → Type 0
+abbrev pub TellsOfAll : {R : Type 0} → VerdictTeller R → VerdictTeller R → Output → Output → Type 0 → Result (Unit {0}) Broken → Type 0
 TellsOfAll s t before now rose told = (result : Result Bool Broken) → HasTold told t.open_left result → TellsVerdicts s.judge.matter s.judge.book t.judge.book before now rose result

@@ -1,7 +1,7 @@
 -- What is told of a log: what was found, and behind a least number of faults the verdict on each fault event.
 use Rattle.std.specs.Prelude.{◌≡◌, ◌⊎◌, ℕ, Bool, List, [], ◌∷◌, Option, Result, Ok, Err, IsErrOf}
-use Rattle.std.specs.List.{concat, list_any}
-use Rattle.des_base.specs.Outside.{Took, TookFront}
+use Rattle.std.specs.List.{list_any}
+use Rattle.des_base.specs.Outside.{Output, Took, TookFront}
 use Rattle.des_net.specs.Network.{Net}
 use Rattle.answers.specs.declared.verdict.Verdict.{Verdict}
 use Rattle.inquiries.specs.Diagnosed.{IsDiagnosed}
@@ -23,14 +23,14 @@ use Rattle.verdict_telling.specs.declared.whole.Told.TheVariants.{Judged, NotExp
 -- ---- what was found
 
 -- It was found with the book that shows it, and the reply was taken. Or it ran out of memory before, and nothing was taken; or a front alone of the reply was. Here rose says that the sink's count of faults rose.
-abbrev pub TellsFound : Net → Log → ℕ → ℕ → List BookEntry → Option (List ℕ) → Option (List ℕ) → Type 0 → Result Found Broken → Type 0
-TellsFound net log n budget book before now rose (Ok found) = IsDiagnosed net log n budget book found × Took before now (text_of_found net n found)
+abbrev pub TellsFound : Net → Log → ℕ → ℕ → List BookEntry → Output → Output → Type 0 → Result Found Broken → Type 0
+TellsFound net log n budget book before now rose (Ok found) = IsDiagnosed net log n budget book found × Took before now (text_of_found net n found ∷ [])
 TellsFound net log n budget book before now rose (Err Memory) = Took before now []
 TellsFound net log n budget book before now rose (Err Put) = rose × (found : Found) × IsDiagnosed net log n budget book found × TookFront before now (text_of_found net n found)
 
 -- a text that tells what was found was taken, or nothing of it, or a front
-abbrev pub PutsFound : List ℕ → Found → Option (List ℕ) → Option (List ℕ) → Type 0 → Result Found Broken → Type 0
-PutsFound text found before now rose (Ok same) = (same ≡ found) × Took before now text
+abbrev pub PutsFound : List ℕ → Found → Output → Output → Type 0 → Result Found Broken → Type 0
+PutsFound text found before now rose (Ok same) = (same ≡ found) × Took before now (text ∷ [])
 PutsFound text found before now rose (Err Memory) = Took before now []
 PutsFound text found before now rose (Err Put) = rose × TookFront before now text
 
@@ -75,16 +75,16 @@ told_of (Many best) verdicts = TooMany
 told_of (Undecided lo best) verdicts = NotDecided
 
 -- All was told, and the replies were taken.
-pub record IsAllSaid (net : Net) (log : Log) (n budget : ℕ) (book : List BookEntry) (before now : Option (List ℕ)) (told : Told) : Type 0 where
+pub record IsAllSaid (net : Net) (log : Log) (n budget : ℕ) (book : List BookEntry) (before now : Output) (told : Told) : Type 0 where
   pub found : Found
   pub verdicts : List Verdict
   pub texts : List (List ℕ)
   pub have : HaveReplies net log n budget found (events_behind net found) book verdicts texts
   pub told_is : told ≡ told_of found verdicts
-  pub put : Took before now (concat texts)
+  pub put : Took before now texts
 
 -- It ran out of memory behind some of the replies, which were taken. The book has at most what was put for the next event.
-pub record IsBrokenOff (net : Net) (log : Log) (n budget : ℕ) (book : List BookEntry) (before now : Option (List ℕ)) : Type 0 where
+pub record IsBrokenOff (net : Net) (log : Log) (n budget : ℕ) (book : List BookEntry) (before now : Output) : Type 0 where
   pub found : Found
   pub events : List ℕ
   pub verdicts : List Verdict
@@ -92,10 +92,10 @@ pub record IsBrokenOff (net : Net) (log : Log) (n budget : ℕ) (book : List Boo
   pub mid : List BookEntry
   pub have : HaveReplies net log n budget found events mid verdicts texts
   pub grown : HasGrownWithin budget mid book
-  pub put : Took before now (concat texts)
+  pub put : Took before now texts
 
 -- The last reply couldn't be put whole: that about the log, or on the last of these events.
-pub record IsCutInReply (net : Net) (log : Log) (n budget : ℕ) (book : List BookEntry) (before now : Option (List ℕ)) : Type 0 where
+pub record IsCutInReply (net : Net) (log : Log) (n budget : ℕ) (book : List BookEntry) (before now : Output) : Type 0 where
   pub found : Found
   pub events : List ℕ
   pub verdicts : List Verdict
@@ -104,13 +104,13 @@ pub record IsCutInReply (net : Net) (log : Log) (n budget : ℕ) (book : List Bo
   pub put : TookCut texts before now
 
 -- by how telling ends; it may run out of memory before anything is taken
-abbrev pub TellsWhole : Net → Log → ℕ → ℕ → List BookEntry → Option (List ℕ) → Option (List ℕ) → Type 0 → Result Told Broken → Type 0
+abbrev pub TellsWhole : Net → Log → ℕ → ℕ → List BookEntry → Output → Output → Type 0 → Result Told Broken → Type 0
 TellsWhole net log n budget book before now rose (Ok told) = IsAllSaid net log n budget book before now told
 TellsWhole net log n budget book before now rose (Err Memory) = Took before now [] ⊎ IsBrokenOff net log n budget book before now
 TellsWhole net log n budget book before now rose (Err Put) = rose × IsCutInReply net log n budget book before now
 
 -- how telling ends, what is left in the book, and that a put failed exactly if that is answered
-pub record TellsCase (net : Net) (log : Log) (n budget : ℕ) (book : List BookEntry) (before now : Option (List ℕ)) (rose : Type 0) (failed fails : Option ℕ) (result : Result Told Broken) : Type 0 where
+pub record TellsCase (net : Net) (log : Log) (n budget : ℕ) (book : List BookEntry) (before now : Output) (rose : Type 0) (failed fails : Option ℕ) (result : Result Told Broken) : Type 0 where
   pub tells : TellsWhole net log n budget book before now rose result
   pub left : LeavesVerdicts net log n budget book
   pub failures : RisesExactlyIf (IsErrOf result Put) failed fails
