@@ -11,8 +11,8 @@ use Rattle.fault_verdicts.proofs.Events.{few_true, run_has, true_run_of}
 use Rattle.fault_verdicts.proofs.Going.{belong_on, ready_after_search}
 use Rattle.fault_verdicts.proofs.Judged.{asked_beside, open_found, possible_found, refuted_found}
 use Rattle.fault_verdicts.specs.Asked.{IsPosedOf, some_step_clauses}
-use Rattle.fault_verdicts.specs.Judged.{FinalsNegateAssumed, IsBestRun, IsJudged, IsVerdict, FinalsNegateAsked, IsOpenAtMost, IsQuestionAbout}
-use Rattle.fault_verdicts.specs.Judging.{AreAssumedOf, IsSolvedAbout, IsSaidBy, IsVerdictShown, KeepsStepsAndLog, bound_for, verdict_of, IsUnanswered}
+use Rattle.fault_verdicts.specs.Judged.{FinalsNegateAssumed, IsBestRun, IsJudged, IsVerdict, FinalsNegateAsked, IsVerdictOpenAtMost, IsQuestionAbout}
+use Rattle.fault_verdicts.specs.Judging.{AreAssumedOf, IsSolvedAbout, IsSaidBy, IsVerdictShown, KeepsStepsAndLog, bound_for, verdict_of, EndsWithoutVerdict}
 use Rattle.answers.specs.declared.verdict.Verdict.{Verdict}
 use Rattle.answers.specs.declared.verdict.Verdict.TheVariants.{Possible, Open}
 use Rattle.least_faults.proofs.Asked.{axioms_true, searching_both}
@@ -168,7 +168,7 @@ module _ {R : Type 0} (may : R → ℕ → Type 0) (gives : R → ℕ → ℕ �
   asked_now = record { question = has.question; asked = asked_beside first e has.question there told has.is_for; assumed = is.assumed; posed = has.posed }
 
   -- without a verdict
-  pub shown_unanswered : IsUnanswered net log parts.step.steps k e first old new
+  pub shown_unanswered : EndsWithoutVerdict net log parts.step.steps k e first old new
   shown_unanswered = record { since = is.searching.since; whole = is.searching.whole; finals = λ clause hints in'. (asked_now, is.finals clause hints in'); few = is.few }
 
   with_verdict : (verdict : Verdict) → IsVerdict (axioms_of new) (clauses_of new) old is.searching.since net log parts.step.steps k e before first verdict → IsVerdictShown net log parts.step.steps k e first before after old new verdict
@@ -247,7 +247,7 @@ judged net log n k e budget left first old opened asked new verdict begins close
 
 -- ---- without a verdict
 
-pub unanswered_none : (net : Net) (log : Log) (n k e : ℕ) (first : List RunStep) (old new : List BookEntry) → PutsNoFinal old new → IsUnanswered net log n k e first old new
+pub unanswered_none : (net : Net) (log : Log) (n k e : ℕ) (first : List RunStep) (old new : List BookEntry) → PutsNoFinal old new → EndsWithoutVerdict net log n k e first old new
 unanswered_none net log n k e first old new quit = record {
   since = quit.since;
   whole = quit.whole;
@@ -256,11 +256,11 @@ unanswered_none net log n k e first old new quit = record {
 }
 
 -- where there is one that can't be closed
-pub unanswered_shown : (net : Net) (log : Log) (n k e left after : ℕ) (first : List RunStep) (old new : List BookEntry) (verdict : Verdict) → IsVerdictShown net log n k e first left after old new verdict → IsUnanswered net log n k e first old new
+pub unanswered_shown : (net : Net) (log : Log) (n k e left after : ℕ) (first : List RunStep) (old new : List BookEntry) (verdict : Verdict) → IsVerdictShown net log n k e first left after old new verdict → EndsWithoutVerdict net log n k e first old new
 unanswered_shown net log n k e left after first old new verdict is = record { since = is.searching.since; whole = is.searching.whole; finals = λ clause hints in'. (is.asked, is.finals clause hints in'); few = is.few }
 
 -- behind the opening mark the question is left open
-pub left_open : (net : Net) (log : Log) (n k e budget left : ℕ) (first : List RunStep) (old opened asked : List BookEntry) → opened ≡ old ++ mark 0 ∷ [] → IsSearching opened asked budget left → IsUnanswered net log n k e first opened asked → IsOpenAtMost net log n k e budget first old asked
+pub left_open : (net : Net) (log : Log) (n k e budget left : ℕ) (first : List RunStep) (old opened asked : List BookEntry) → opened ≡ old ++ mark 0 ∷ [] → IsSearching opened asked budget left → EndsWithoutVerdict net log n k e first opened asked → IsVerdictOpenAtMost net log n k e budget first old asked
 left_open net log n k e budget left first old opened asked begins searching is = inr (record {
   since = searching.since;
   whole = searching.whole ∙ ap (λ b. b ++ searching.since) begins ∙ append_assoc old (mark 0 ∷ []) searching.since;

@@ -9,7 +9,7 @@ use Rattle.des_base.specs.declared.TheConstants.{MOST_STEPS}
 use Rattle.des_net.specs.Network.{Net}
 use Rattle.fault_verdicts.proofs.Going.{belong_on}
 use Rattle.fault_verdicts.proofs.Judged.{has_or_not}
-use Rattle.fault_verdicts.specs.Judged.{IsBestRun, IsJudged, IsOpenAtMost, IsPossibleFound}
+use Rattle.fault_verdicts.specs.Judged.{IsBestRun, IsJudged, IsVerdictOpenAtMost, IsPossibleFound}
 use Rattle.fault_verdicts.specs.Judges.{AddsPossible, DiffersIn, IsEventJudged, IsJudgeOf, IsLeftUnjudged, KeepsSteps, matter_of}
 use Rattle.fault_verdicts.specs.Judging.{KeepsStepsAndLog}
 use Rattle.fault_verdicts.specs.Verdicts.{IsPossible}
@@ -97,9 +97,9 @@ pub asked_of : {R : Type 0} (net : Net) (log : Log) (best : Best) (e budget : �
 asked_of net log best e budget old new before after found goes judged = inl (subst (λ (s : CodedSteps). IsJudged net log s.steps best.faults e budget best.run before after found) goes.step judged)
 
 -- out of memory the question is open at most
-pub unasked_of : {R : Type 0} (net : Net) (log : Log) (best : Best) (e budget : ℕ) (old new : Carried R) (before after : List BookEntry) → KeepsStepsAndLog 1 old.parts new.parts → IsOpenAtMost net log new.parts.step.steps best.faults e budget best.run before after →
+pub unasked_of : {R : Type 0} (net : Net) (log : Log) (best : Best) (e budget : ℕ) (old new : Carried R) (before after : List BookEntry) → KeepsStepsAndLog 1 old.parts new.parts → IsVerdictOpenAtMost net log new.parts.step.steps best.faults e budget best.run before after →
     IsLeftUnjudged (matter_of net log best budget old) e before after
-unasked_of net log best e budget old new before after goes unclosed = inl (subst (λ (s : CodedSteps). IsOpenAtMost net log s.steps best.faults e budget best.run before after) goes.step unclosed)
+unasked_of net log best e budget old new before after goes unclosed = inl (subst (λ (s : CodedSteps). IsVerdictOpenAtMost net log s.steps best.faults e budget best.run before after) goes.step unclosed)
 
 -- the verdict was given, and couldn't be kept
 pub unkept_of : {R : Type 0} (net : Net) (log : Log) (best : Best) (e budget : ℕ) (old new : Carried R) (before after : List BookEntry) (found : Verdict) → KeepsStepsAndLog 1 old.parts new.parts → IsJudged net log new.parts.step.steps best.faults e budget best.run before after found →

@@ -96,7 +96,7 @@ abbrev pub FinalsNegateAsked : List Clause → Net → Log → ℕ → ℕ → �
 FinalsNegateAsked axioms net log n k e first entries = (clause : Clause) (hints : List ℕ) → Contains entries (final clause hints) → (asked : IsQuestionAbout axioms net log n k e first) × NegatesOnly asked.assumed clause
 
 -- The question was opened by a mark 0 and has no verdict: no mark stands behind that one. At most as many clauses as the budget says were learnt, each of them fresh. There is at most one final entry, which negates what the question assumes.
-pub record IsLeftOpen (net : Net) (log : Log) (n k e budget : ℕ) (first : List RunStep) (old new : List BookEntry) : Type 0 where
+pub record IsVerdictLeftOpen (net : Net) (log : Log) (n k e budget : ℕ) (first : List RunStep) (old new : List BookEntry) : Type 0 where
   pub since : List BookEntry
   pub whole : new ≡ old ++ mark 0 ∷ since
   pub unmarked : (number : ℕ) → count_by (is_mark number) since ≡ 0
@@ -106,5 +106,5 @@ pub record IsLeftOpen (net : Net) (log : Log) (n k e budget : ℕ) (first : List
   pub few : count_by is_final since ≤ 1
 
 -- Out of memory the question about the event is open at most: the book is as it was, or the question is left open in it.
-abbrev pub IsOpenAtMost : Net → Log → ℕ → ℕ → ℕ → ℕ → List RunStep → List BookEntry → List BookEntry → Type 0
-IsOpenAtMost net log n k e budget first old new = (new ≡ old) ⊎ IsLeftOpen net log n k e budget first old new
+abbrev pub IsVerdictOpenAtMost : Net → Log → ℕ → ℕ → ℕ → ℕ → List RunStep → List BookEntry → List BookEntry → Type 0
+IsVerdictOpenAtMost net log n k e budget first old new = (new ≡ old) ⊎ IsVerdictLeftOpen net log n k e budget first old new

@@ -3,7 +3,7 @@ use Rattle.std.specs.Prelude.{◌≡◌, ◌⊎◌, ◌↔◌, ℕ, ◌≤◌, L
 use Rattle.std.specs.List.{AllByRecursion}
 use Rattle.des_base.specs.declared.TheConstants.{MOST_STEPS}
 use Rattle.des_net.specs.Network.{Net}
-use Rattle.fault_verdicts.specs.Judged.{IsBestRun, IsJudged, IsOpenAtMost, IsPossibleFound}
+use Rattle.fault_verdicts.specs.Judged.{IsBestRun, IsJudged, IsVerdictOpenAtMost, IsPossibleFound}
 use Rattle.fault_verdicts.specs.Ready.{AreReadyForVerdicts}
 use Rattle.answers.specs.declared.verdict.Verdict.{Verdict}
 use Rattle.answers.specs.declared.verdict.Verdict.TheVariants.{Possible}
@@ -43,7 +43,7 @@ IsEventJudged m e old new verdict = IsAskedOf m e old new verdict ⊎ IsShown m 
 
 -- Out of memory the event may be without a verdict: a question about it is open at most, or it was answered and the verdict couldn't be kept.
 abbrev pub IsLeftUnjudged : Matter → ℕ → List BookEntry → List BookEntry → Type 0
-IsLeftUnjudged m e old new = IsOpenAtMost m.net m.log m.steps m.best.faults e m.budget m.best.run old new ⊎ ((verdict : Verdict) × IsAskedOf m e old new verdict)
+IsLeftUnjudged m e old new = IsVerdictOpenAtMost m.net m.log m.steps m.best.faults e m.budget m.best.run old new ⊎ ((verdict : Verdict) × IsAskedOf m e old new verdict)
 
 -- ---- one after another
 

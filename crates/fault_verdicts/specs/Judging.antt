@@ -104,7 +104,7 @@ pub record IsVerdictShown (net : Net) (log : Log) (n k e : ℕ) (first : List Ru
   pub found : IsVerdict (axioms_of new) (clauses_of new) old searching.since net log n k e left_old first verdict
 
 -- It ended without a verdict: at most one final entry was put, which negates what the question assumes.
-pub record IsUnanswered (net : Net) (log : Log) (n k e : ℕ) (first : List RunStep) (old new : List BookEntry) : Type 0 where
+pub record EndsWithoutVerdict (net : Net) (log : Log) (n k e : ℕ) (first : List RunStep) (old new : List BookEntry) : Type 0 where
   pub since : List BookEntry
   pub whole : new ≡ old ++ since
   pub finals : FinalsNegateAsked (axioms_of new) net log n k e first since

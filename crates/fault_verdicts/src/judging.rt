@@ -2,8 +2,8 @@
 ghost use Rattle.std.specs.Prelude.{◌≡◌, ◌<◌, ◌≤◌, ◌↔◌, Contains, true, length, IfOk, OnErr};
 ghost use Rattle.des_base.specs.declared.TheConstants.{MOST_STEPS};
 ghost use Rattle.des_net.specs.Network.{is_fault};
-ghost use Rattle.fault_verdicts.specs.Judged.{IsBestRun, IsJudged, IsOpenAtMost};
-ghost use Rattle.fault_verdicts.specs.Judging.{AreAssumedOf, IsSolvedAbout, IsUnanswered, KeepsStepsAndLog, IsVerdictShown, has_this, verdict_of};
+ghost use Rattle.fault_verdicts.specs.Judged.{IsBestRun, IsJudged, IsVerdictOpenAtMost};
+ghost use Rattle.fault_verdicts.specs.Judging.{AreAssumedOf, IsSolvedAbout, EndsWithoutVerdict, KeepsStepsAndLog, IsVerdictShown, has_this, verdict_of};
 ghost use Rattle.fault_verdicts.specs.Ready.{AreReadyForVerdicts};
 ghost use Rattle.least_faults.specs.Asking.{IsSearching, PutsNoFinal};
 ghost use Rattle.least_faults.specs.Growing.{AddsAxioms, HasGrownWithin};
@@ -52,7 +52,7 @@ pub fn verdict<R: Fn(u32) -> u64>(
     ensures goes_on { KeepsStepsAndLog 1 parts.old parts.new }
     ensures grown { HasGrownWithin budget book.old.entries book.new.entries }
     ensures judged { IfOk result (IsJudged net.now log.now parts.new.step.steps k event budget first.now book.old.entries book.new.entries) }
-    ensures unanswered { OnErr result (IsOpenAtMost net.now log.now parts.new.step.steps k event budget first.now book.old.entries book.new.entries) }
+    ensures unanswered { OnErr result (IsVerdictOpenAtMost net.now log.now parts.new.step.steps k event budget first.now book.old.entries book.new.entries) }
 {
     let question = Question { net, log, alloc };
     let mut left = budget;
@@ -84,7 +84,7 @@ fn ask<R: Fn(u32) -> u64>(
     ensures goes_on { KeepsStepsAndLog 1 parts.old parts.new }
     ensures searching { IsSearching book.old.entries book.new.entries left.old left.new }
     ensures asked { IfOk result (IsVerdictShown question.entry.net.now question.entry.log.now parts.new.step.steps k event first.now left.old left.new book.old.entries book.new.entries) }
-    ensures quit { OnErr result (IsUnanswered question.entry.net.now question.entry.log.now parts.new.step.steps k event first.now book.old.entries book.new.entries) }
+    ensures quit { OnErr result (EndsWithoutVerdict question.entry.net.now question.entry.log.now parts.new.step.steps k event first.now book.old.entries book.new.entries) }
 {
     question.net.is_built();
     question.log.is_whole();

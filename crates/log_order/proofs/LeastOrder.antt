@@ -38,7 +38,7 @@ pub first_below-none : (m : ℕ) (p : ℕ → Bool) (i : ℕ) → first_below m 
 first_below-none zero p i h l = absurd (omega arith)
 first_below-none (suc m) p i h l = none_step m i p (first_below m p) (p m) refl (first_below-none m p i) h l (i == m) refl
 
--- ---- what waits
+-- ---- what is held back
 
 any_at : (pairs : List (ℕ × ℕ)) (taken : ℕ → Bool) (a i : ℕ) → list_any (λ pair. pair.1 == i && not (taken pair.0)) pairs ≡ false → has_pair pairs a i ≡ true → taken a ≡ true
 any_at [] taken a i h there = cc

@@ -6,7 +6,7 @@ use Rattle.std.proofs.lemmas.Bool.{and_left}
 use Rattle.des_base.proofs.BoolLemmas.{differ, or_assoc}
 use Rattle.log_order.specs.Precedence.{is_in, is_marked, with_follower}
 use Rattle.log_order.specs.Order.{first_below, is_held_back}
-use Rattle.log_order.specs.Waiting.{AreBefore, waits}
+use Rattle.log_order.specs.Waiting.{AreBefore, is_held_back_in}
 use Rattle.log_order.proofs.MarkLemmas.{or_false, eq_suc}
 
 get-none : (lists : List (List ℕ)) (i : ℕ) → get_or (lists ++ [] ∷ []) i [] ≡ get_or lists i []
@@ -55,21 +55,21 @@ before-push pairs lists pair l h taken i =
     ∙ ap (λ t. t || (pair.1 == i && not (taken pair.0))) (h taken i)
     ∙ sym (any-push (λ (p : ℕ × ℕ). p.1 == i && not (taken p.0)) pairs pair)
 
--- what waits is held back
-pub waits-is : (pairs : List (ℕ × ℕ)) (lists : List (List ℕ)) (taken : ℕ → Bool) → AreBefore pairs lists → (i : ℕ) → waits lists taken i ≡ is_held_back taken pairs i
-waits-is pairs lists taken h i = ap (λ t. taken i || t) (h taken i)
+-- what lists hold back is held back by pairs
+pub is_held_back_in-is : (pairs : List (ℕ × ℕ)) (lists : List (List ℕ)) (taken : ℕ → Bool) → AreBefore pairs lists → (i : ℕ) → is_held_back_in lists taken i ≡ is_held_back taken pairs i
+is_held_back_in-is pairs lists taken h i = ap (λ t. taken i || t) (h taken i)
 
--- the smallest number that doesn't wait is taken next
-pub next-waits : (m : ℕ) (pairs : List (ℕ × ℕ)) (lists : List (List ℕ)) (order : List ℕ) (taken : List Bool) (o : Option ℕ) → AreBefore pairs lists → ((i : ℕ) → is_marked taken i ≡ is_in order i)
-    → first_below m (λ i. not (waits lists (is_marked taken) i)) ≡ o → first_below m (λ i. not (is_held_back (is_in order) pairs i)) ≡ o
-next-waits m pairs lists order taken o h t e =
+-- the smallest number that isn't held back is taken next
+pub next-is_held_back_in : (m : ℕ) (pairs : List (ℕ × ℕ)) (lists : List (List ℕ)) (order : List ℕ) (taken : List Bool) (o : Option ℕ) → AreBefore pairs lists → ((i : ℕ) → is_marked taken i ≡ is_in order i)
+    → first_below m (λ i. not (is_held_back_in lists (is_marked taken) i)) ≡ o → first_below m (λ i. not (is_held_back (is_in order) pairs i)) ≡ o
+next-is_held_back_in m pairs lists order taken o h t e =
     let tests : is_marked taken ≡ is_in order = λ k i. t i k in
-    let all : (i : ℕ) → waits lists (is_marked taken) i ≡ is_held_back (is_in order) pairs i = λ i. waits-is pairs lists (is_marked taken) h i ∙ ap (λ test. is_held_back test pairs i) tests in
-    let same : first_below m (λ i. not (waits lists (is_marked taken) i)) ≡ first_below m (λ i. not (is_held_back (is_in order) pairs i)) = λ k. first_below m (λ i. not (all i k)) in
+    let all : (i : ℕ) → is_held_back_in lists (is_marked taken) i ≡ is_held_back (is_in order) pairs i = λ i. is_held_back_in-is pairs lists (is_marked taken) h i ∙ ap (λ test. is_held_back test pairs i) tests in
+    let same : first_below m (λ i. not (is_held_back_in lists (is_marked taken) i)) ≡ first_below m (λ i. not (is_held_back (is_in order) pairs i)) = λ k. first_below m (λ i. not (all i k)) in
     sym same ∙ e
 
 -- the same as code reads it
-pub first-waits : (n m : ℕ) (pairs : List (ℕ × ℕ)) (lists : List (List ℕ)) (order : List ℕ) (taken read : List Bool) (o : Option ℕ) → n ≡ m → read ≡ taken → AreBefore pairs lists → ((i : ℕ) → is_marked taken i ≡ is_in order i)
-    → first_below n (λ i. not (waits lists (is_marked read) i)) ≡ o → first_below m (λ i. not (is_held_back (is_in order) pairs i)) ≡ o
-first-waits n m pairs lists order taken read o e f h t g =
-    next-waits m pairs lists order taken o h t (ap (λ k. first_below k (λ i. not (waits lists (is_marked taken) i))) (sym e) ∙ ap (λ ms. first_below n (λ i. not (waits lists (is_marked ms) i))) (sym f) ∙ g)
+pub first-is_held_back_in : (n m : ℕ) (pairs : List (ℕ × ℕ)) (lists : List (List ℕ)) (order : List ℕ) (taken read : List Bool) (o : Option ℕ) → n ≡ m → read ≡ taken → AreBefore pairs lists → ((i : ℕ) → is_marked taken i ≡ is_in order i)
+    → first_below n (λ i. not (is_held_back_in lists (is_marked read) i)) ≡ o → first_below m (λ i. not (is_held_back (is_in order) pairs i)) ≡ o
+first-is_held_back_in n m pairs lists order taken read o e f h t g =
+    next-is_held_back_in m pairs lists order taken o h t (ap (λ k. first_below k (λ i. not (is_held_back_in lists (is_marked taken) i))) (sym e) ∙ ap (λ ms. first_below n (λ i. not (is_held_back_in lists (is_marked ms) i))) (sym f) ∙ g)

@@ -3,7 +3,7 @@ ghost use Rattle.std.specs.Prelude.{◌≡◌, ◌<◌, ℕ, ◌^◌, List, [], 
 ghost use Rattle.std.specs.List.{list_all};
 ghost use Rattle.log_order.specs.Precedence.{is_in, is_marked};
 ghost use Rattle.log_order.specs.Order.{first_below, with_next, taken_first, least_order};
-ghost use Rattle.log_order.specs.Waiting.{AreBefore, waits};
+ghost use Rattle.log_order.specs.Waiting.{AreBefore, is_held_back_in};
 
 use crate::marks::is_marked;
 use crate::precedence::push_follower;
@@ -38,7 +38,7 @@ fn before_each(alloc: Global, count: u32, pairs: &[(u32, u32)]) -> Result<Vec<Li
 // Whether the number isn't taken, and all that stand before it are.
 fn is_free(before: &[ListOf<u32>], taken: &[bool], number: u32) -> bool
     requires { number < length before.now }
-    ensures { result ≡ not (waits before.now (is_marked taken.now) number) }
+    ensures { result ≡ not (is_held_back_in before.now (is_marked taken.now) number) }
 {
     !is_marked(taken, number) && are_taken(taken, before[number as usize].as_slice())
 }
@@ -53,7 +53,7 @@ fn are_taken(taken: &[bool], numbers: &[u32]) -> bool
 // The smallest number that is free.
 fn first_free(before: &[ListOf<u32>], taken: &[bool]) -> Option<u32>
     requires { length before.now < 2 ^ 32 }
-    ensures { result ≡ first_below (length before.now) (λ i. not (waits before.now (is_marked taken.now) i)) }
+    ensures { result ≡ first_below (length before.now) (λ i. not (is_held_back_in before.now (is_marked taken.now) i)) }
 {
     let count = before.len() as u32;
     for number in 0..count {

@@ -7,7 +7,7 @@ use Rattle.prop_core.specs.declared.lit.Lit.{Lit}
 use Rattle.prop_core.specs.Clauses.{same_literal, is_true, is_false, is_open}
 use Rattle.prop_core.specs.Derivation.{Standing, falsified, satisfied, unit, wide, standing, open_standing}
 use Rattle.proof_ledger.specs.declared.truths.Front.{Front}
-use Rattle.proof_ledger.specs.Fronts.{opened, front_with, one_open, front_standing}
+use Rattle.proof_ledger.specs.Fronts.{with_open, front_with, one_open, front_standing}
 
 -- how a clause stands by its open literals, where this is known of the first ones and these are the others
 pub open_behind : Option Lit → Bool → List Lit → Standing
@@ -20,7 +20,7 @@ standing_behind taken front rest =
     cond (front.all_false && list_all (is_false taken) rest) falsified
     (cond (front.any_true || list_any (is_true taken) rest) satisfied (open_behind front.first front.wide (filter (is_open taken) rest)))
 
-open_more : (o : Option Lit) (more : Bool) (l : Lit) (xs : List Lit) → open_behind o more (l ∷ xs) ≡ open_behind (opened o more l).0 (opened o more l).1 xs
+open_more : (o : Option Lit) (more : Bool) (l : Lit) (xs : List Lit) → open_behind o more (l ∷ xs) ≡ open_behind (with_open o more l).0 (with_open o more l).1 xs
 unfolding open_behind
 open_more None more l xs = by (list_all (same_literal l) xs)
   where
@@ -36,7 +36,7 @@ open_more (Some first) more l xs = by more (same_literal first l) (list_all (sam
 
 with_one : (a b f t r s : Bool) (o : Option Lit) (more : Bool) (l : Lit) (xs : List Lit) →
     cond (a && (f && r)) falsified (cond (b || (t || s)) satisfied (open_behind o more (cond (not t && not f) (l ∷ xs) xs)))
-    ≡ cond ((a && f) && r) falsified (cond ((b || t) || s) satisfied (open_behind (cond (not f && not t) (opened o more l).0 o) (cond (not f && not t) (opened o more l).1 more) xs))
+    ≡ cond ((a && f) && r) falsified (cond ((b || t) || s) satisfied (open_behind (cond (not f && not t) (with_open o more l).0 o) (cond (not f && not t) (with_open o more l).1 more) xs))
 with_one true true true true r s o more l xs = refl
 with_one true true true false r s o more l xs = refl
 with_one true true false true r s o more l xs = refl

@@ -6,9 +6,9 @@ use Rattle.prop_core.specs.Derivation.{Standing, falsified, satisfied, unit, wid
 use Rattle.proof_ledger.specs.declared.truths.Front.{Front}
 
 -- with one more literal that is open: the first one, or another one
-abbrev pub opened : Option Lit → Bool → Lit → Option Lit × Bool
-opened None more l = (Some l, false)
-opened (Some first) more l = (Some first, more || not (same_literal first l))
+abbrev pub with_open : Option Lit → Bool → Lit → Option Lit × Bool
+with_open None more l = (Some l, false)
+with_open (Some first) more l = (Some first, more || not (same_literal first l))
 
 -- with one more literal, which may be false and may be true
 abbrev pub front_with : Front → Lit → Bool → Bool → Front
@@ -16,8 +16,8 @@ front_with front l is_false is_true =
     record {
       all_false = front.all_false && is_false;
       any_true = front.any_true || is_true;
-      first = if not is_false && not is_true then (opened front.first front.wide l).0 else front.first;
-      wide = if not is_false && not is_true then (opened front.first front.wide l).1 else front.wide;
+      first = if not is_false && not is_true then (with_open front.first front.wide l).0 else front.first;
+      wide = if not is_false && not is_true then (with_open front.first front.wide l).1 else front.wide;
     }
 
 -- how a clause stands whose open literal is this one, if no other is open

@@ -3,8 +3,8 @@ use Rattle.std.proofs.Common.{ap, inl, subst, sym}
 use Rattle.fault_verdicts.proofs.Answered.{judged, left_open, unanswered_shown}
 use Rattle.fault_verdicts.proofs.Going.{goes_nowhere, ready_with_mark}
 use Rattle.fault_verdicts.proofs.judging.verdict.Goals as goal
-use Rattle.fault_verdicts.specs.Judged.{IsBestRun, IsOpenAtMost}
-use Rattle.fault_verdicts.specs.Judging.{IsUnanswered, IsVerdictShown}
+use Rattle.fault_verdicts.specs.Judged.{IsBestRun, IsVerdictOpenAtMost}
+use Rattle.fault_verdicts.specs.Judging.{EndsWithoutVerdict, IsVerdictShown}
 use Rattle.fault_verdicts.specs.Ready.{AreReadyForVerdicts}
 use Rattle.least_faults.proofs.Closing.{grown_closed, grown_not, grown_opened}
 use Rattle.least_faults.specs.Growing.{HasGrownWithin}
@@ -59,12 +59,12 @@ pub returns-in_err-verdict-clause-unanswered : goal.returns-in_err-verdict-claus
 returns-in_err-verdict-clause-unanswered g c =
     on_err _ _ (left_open c.args.net.now c.args.log.now c.ask.new.parts.step.steps c.args.k c.args.event c.args.budget c.ask.new.left c.args.first.now c.args.book.now.entries c.put_mark.new.self.entries c.ask.new.book.entries
     (ap (λ (b : LedgerState). b.entries) c.in_ok-put_mark.ensures.added) c.ask.ensures.searching
-    (subst (λ steps. IsUnanswered c.args.net.now c.args.log.now c.ask.new.parts.step.steps c.args.k c.args.event steps c.put_mark.new.self.entries c.ask.new.book.entries) c.steps.ensures.steps c.in_err-verdict.ensures.quit))
+    (subst (λ steps. EndsWithoutVerdict c.args.net.now c.args.log.now c.ask.new.parts.step.steps c.args.k c.args.event steps c.put_mark.new.self.entries c.ask.new.book.entries) c.steps.ensures.steps c.in_err-verdict.ensures.quit))
 
 pub returns-in_err-put_mark-2-clause-unanswered : goal.returns-in_err-put_mark-2-clause-unanswered
 returns-in_err-put_mark-2-clause-unanswered g c =
-    on_err _ _ (subst (λ (b : LedgerState). IsOpenAtMost c.args.net.now c.args.log.now c.ask.new.parts.step.steps c.args.k c.args.event c.args.budget c.args.first.now c.args.book.now.entries b.entries) (sym c.in_err-put_mark-2.ensures.err)
+    on_err _ _ (subst (λ (b : LedgerState). IsVerdictOpenAtMost c.args.net.now c.args.log.now c.ask.new.parts.step.steps c.args.k c.args.event c.args.budget c.args.first.now c.args.book.now.entries b.entries) (sym c.in_err-put_mark-2.ensures.err)
     (left_open c.args.net.now c.args.log.now c.ask.new.parts.step.steps c.args.k c.args.event c.args.budget c.ask.new.left c.args.first.now c.args.book.now.entries c.put_mark.new.self.entries c.ask.new.book.entries
     (ap (λ (b : LedgerState). b.entries) c.in_ok-put_mark.ensures.added) c.ask.ensures.searching
-    (subst (λ steps. IsUnanswered c.args.net.now c.args.log.now c.ask.new.parts.step.steps c.args.k c.args.event steps c.put_mark.new.self.entries c.ask.new.book.entries) c.steps.ensures.steps (unanswered_shown _ _ _ _ _ _ _ _ _ _ _ c.in_ok-verdict.ensures.asked)))
+    (subst (λ steps. EndsWithoutVerdict c.args.net.now c.args.log.now c.ask.new.parts.step.steps c.args.k c.args.event steps c.put_mark.new.self.entries c.ask.new.book.entries) c.steps.ensures.steps (unanswered_shown _ _ _ _ _ _ _ _ _ _ _ c.in_ok-verdict.ensures.asked)))
     )
