@@ -69,7 +69,7 @@ impl Reply {
 }
 
 /// Puts the text of an ending by one put, and returns its status. Out of memory it puts nothing.
-#[tactic(auto, using(telling::proofs::Taking::nothing_taken, crate::proofs::Putting::one_text))]
+#[tactic(auto, using(telling::proofs::Taking::nothing_taken))]
 pub fn put_once<S: Sink>(alloc: Global, ending: Result<Reply, Stop>, out: &mut S) -> u8
     ensures puts { Puts (once ending) (S.taken out.old) (S.taken out.new) (Rose (S.faults out.old) (S.faults out.new)) result }
     ensures failures { RisesExactlyIf (result ≡ 4) (S.failures out.old) (S.failures out.new) }
