@@ -4,6 +4,8 @@
 //! theorem. `main` takes the words of the command line, the real files and the real output, calls `run`, and exits with
 //! the status that it answers.
 #![tactic(auto)]
+ghost use Rattle.std.specs.Prelude.{◌≡◌, IfOk, drop, map, string_bytes};
+ghost use Rattle.std.specs.Vec.Iter.{into_iter_items};
 
 mod asking;
 mod bench_command;
@@ -32,10 +34,13 @@ use std::io::ErrorKind;
 use std::process::ExitCode;
 use std::{env, io};
 
-// The words of the command line, without the program's name.
-fn words_of(alloc: Global, args: env::Args) -> Result<WordList, Memory> {
+// The words of the command line in order, without the program's name, which comes first.
+fn words_of(alloc: Global, mut args: env::Args) -> Result<WordList, Memory>
+    ensures { IfOk result (λ words. words ≡ map string_bytes (drop 1 (into_iter_items args))) }
+{
     let mut words = WordList::new(alloc);
-    for arg in args.skip(1) {
+    args.next();
+    for arg in args {
         words.push(arg.as_str())?;
     }
     Ok(words)
