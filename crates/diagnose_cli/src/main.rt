@@ -4,6 +4,7 @@
 //! theorem. `main` takes the words of the command line, the real files and the real output, calls `run`, and exits with
 //! the status that it answers.
 #![tactic(auto)]
+
 ghost use Rattle.std.specs.Prelude.{◌≡◌, IfOk, drop, map, string_bytes};
 ghost use Rattle.std.specs.Vec.Iter.{into_iter_items};
 

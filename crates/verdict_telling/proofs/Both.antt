@@ -1,5 +1,5 @@
 -- What was found is told first, and then the verdicts.
-use Rattle.std.proofs.Common.{◌≡◌, ◌≤◌, ◌∙◌, inl, inr, ℕ, ◌+◌, Bool, List, [], ◌∷◌, length, Option, Result, Ok, Err, refl, sym, ap, subst, append-nil, length-append}
+use Rattle.std.proofs.Common.{◌≡◌, ◌≤◌, ◌∙◌, inl, inr, ℕ, ◌+◌, Bool, List, [], ◌∷◌, length, Result, Ok, Err, refl, sym, ap, subst, append-nil, length-append}
 use Rattle.des_base.specs.Outside.{Output, Took}
 use Rattle.des_net.specs.Network.{Net}
 use Rattle.fault_verdicts.proofs.Calling.{best_run}
