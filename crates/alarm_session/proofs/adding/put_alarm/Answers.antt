@@ -1,4 +1,4 @@
-use Rattle.std.proofs.Common.{rules, ℕ, Bool, [], Err, refl, subst, sym}
+use Rattle.std.proofs.Common.{rules, ◌≡◌, ℕ, Bool, None, [], Err, refl, subst, sym}
 use Rattle.alarm_session.proofs.Drafting.{drafted_alike}
 use Rattle.alarm_session.proofs.Joining.{becomes_with, kept_roomy, kept_with, own_draft, own_fits, stage_roomy}
 use Rattle.alarm_session.proofs.Keeping.{alarm_codes}
@@ -59,4 +59,12 @@ returns-in-Err-clause-refused g c =
 
 pub returns-in_err-drafted-clause-refused : goal.returns-in_err-drafted-clause-refused
 returns-in_err-drafted-clause-refused g c =
-    subst (λ (d : Bool). SucceedsUnless {X = ℕ} (refusal_of_alarm c.args.setting.net.now c.args.setting.steps c.args.kept.now.log c.args.id c.args.labels.now d) Memory c.from_residual-in_err-drafted.result) c.is_doubtful-doubtful.ensures (search rules)
+    let net = c.args.setting.net.now in
+    let n = c.args.setting.steps in
+    let log = c.args.kept.now.log in
+    let answers : SucceedsUnless (refusal_of_alarm net n log c.args.id c.args.labels.now c.is_doubtful-doubtful.result) Memory c.from_residual-in_err-drafted.result = search rules in
+    subst (λ (d : Bool). SucceedsUnless (refusal_of_alarm net n log c.args.id c.args.labels.now d) Memory c.from_residual-in_err-drafted.result) c.is_doubtful-doubtful.ensures answers
+
+pub returns-in-Ok-clause-refused : goal.returns-in-Ok-clause-refused
+returns-in-Ok-clause-refused g c =
+    subst (λ (d : Bool). refusal_of_alarm c.args.setting.net.now c.args.setting.steps c.args.kept.now.log c.args.id c.args.labels.now d ≡ None) c.is_doubtful-doubtful.ensures c.in_ok-drafted.ensures.refused
