@@ -62,8 +62,8 @@ returns-in_err-drafted-clause-refused g c =
     let net = c.args.setting.net.now in
     let n = c.args.setting.steps in
     let log = c.args.kept.now.log in
-    let answers : SucceedsUnless (refusal_of_alarm net n log c.args.id c.args.labels.now c.is_doubtful-doubtful.result) Memory c.from_residual-in_err-drafted.result = search rules in
-    subst (λ (d : Bool). SucceedsUnless (refusal_of_alarm net n log c.args.id c.args.labels.now d) Memory c.from_residual-in_err-drafted.result) c.is_doubtful-doubtful.ensures answers
+    let answers : SucceedsUnless (refusal_of_alarm net n log c.args.id c.args.labels.now c.is_doubtful-doubtful.result) Memory c.from_residual.result = search rules in
+    subst (λ (d : Bool). SucceedsUnless (refusal_of_alarm net n log c.args.id c.args.labels.now d) Memory c.from_residual.result) c.is_doubtful-doubtful.ensures answers
 
 pub returns-in-Ok-clause-refused : goal.returns-in-Ok-clause-refused
 returns-in-Ok-clause-refused g c =
