@@ -1,5 +1,5 @@
 -- What a command answers over the bytes of its files.
-use Rattle.std.proofs.Common.{◌≡◌, ◌≢◌, ◌≤◌, ◌<◌, ◌⊎◌, inl, inr, ℕ, ◌+◌, List, [], ◌∷◌, ◌++◌, length, Option, Some, None, Ok, Err, IsOkAnd, IsErrAnd, IfSome, MatchOption, refl, sym, subst, append-nil, append_assoc, arith}
+use Rattle.std.proofs.Common.{◌≡◌, ◌≢◌, ◌≤◌, ◌<◌, ◌⊎◌, inl, inr, ℕ, ◌+◌, List, [], ◌∷◌, ◌++◌, length, Option, Some, None, Ok, Err, IsOkAnd, IsErrAnd, IfSome, MatchOption, refl, sym, ap, subst, suc, ◌∙◌, append-nil, append_assoc, arith}
 use Rattle.std.specs.Prelude.{⊤}
 use Rattle.des_base.specs.CommandWords.{word_at}
 use Rattle.des_base.specs.Outside.{Took}
@@ -8,6 +8,7 @@ use Rattle.diagnose_cli.specs.declared.command.Command.{Command}
 use Rattle.diagnose_cli.specs.declared.command.Command.TheVariants.{One}
 use Rattle.diagnose_cli.specs.declared.command.Single.{Single}
 use Rattle.endings.specs.declared.ending.Kind.{Kind}
+use Rattle.endings.specs.declared.ending.Kind.TheVariants.{Done, Rejected, Absent, Undecided, Many, Nothing, Ambiguous}
 use Rattle.endings.specs.declared.stop.Stop.{Stop}
 use Rattle.endings.specs.declared.stop.Stop.TheVariants.{Usage, Load, Faulty, Long, NoFault, Large, Memory}
 use Rattle.endings.specs.declared.stop.FaultyText.{FaultyText}
@@ -19,7 +20,7 @@ use Rattle.endings.specs.Texts.{FileKind, limit_of, fault_of_text}
 use Rattle.diagnose_cli.specs.Commands.{files_of, command_of}
 use Rattle.diagnose_cli.specs.Due.{MayReply, halts, Says, Closes, InOrder, MayAnswer}
 use Rattle.diagnose_cli.specs.Outcomes.{IsPut, Outcome, ShowsReply}
-use Rattle.diagnose_cli.specs.Rows.{AreRead, ReadsFiles}
+use Rattle.diagnose_cli.specs.Rows.{AreRead, AreTold, CallsWith, ReadsFiles}
 use Rattle.diagnose_cli.specs.Run.{Ends}
 
 -- ---- an ending that has a reply
@@ -125,7 +126,7 @@ between status k is low high stop = elim stop.among [ inl a ↦ omega (arith, a,
 pub above : (status k : ℕ) → status ≡ k → 17 ≤ k → IsStopStatus status → ⊥
 above status k is low stop = elim stop.among [ inl a ↦ omega (arith, a, is, low) | inr b ↦ omega (arith, b.1, is, low) ]
 
-low_stop : (status : ℕ) → 2 ≤ status → status ≤ 9 → IsStopStatus status
+pub low_stop : (status : ℕ) → 2 ≤ status → status ≤ 9 → IsStopStatus status
 low_stop status low high = record { low = low; among = inl high }
 
 high_stop : (status : ℕ) → 15 ≤ status → status ≤ 16 → IsStopStatus status
@@ -148,16 +149,29 @@ of_stop NoFault = high_stop 16 (omega arith) (omega arith)
 of_stop (Large size) = low_stop 8 (omega arith) (omega arith)
 of_stop Memory = low_stop 9 (omega arith) (omega arith)
 
+-- nor has a reply
+pub no_stop_kind : (kind : Kind) → IsStopStatus (status_of_kind kind) → ⊥
+no_stop_kind Done stop = absurd (omega (arith, stop.low))
+no_stop_kind Rejected stop = between 13 13 refl (omega arith) (omega arith) stop
+no_stop_kind Absent stop = between 10 10 refl (omega arith) (omega arith) stop
+no_stop_kind Undecided stop = between 11 11 refl (omega arith) (omega arith) stop
+no_stop_kind Many stop = between 12 12 refl (omega arith) (omega arith) stop
+no_stop_kind Nothing stop = between 14 14 refl (omega arith) (omega arith) stop
+no_stop_kind Ambiguous stop = above 17 17 refl (omega arith) stop
+
+-- the stop of a file's text has a status above those of words and loads
+pub faulty_high : (text : FaultyText) → 5 ≤ status_of_faulty text
+faulty_high (Model fault) = omega arith
+faulty_high (Log fault) = omega arith
+faulty_high (Run fault) = omega arith
+faulty_high (Cnf fault) = omega arith
+faulty_high (Lrat fault) = omega arith
+faulty_high (Cost fault) = omega arith
+
 -- these are the bytes of the files from number i on, as far as that is told
 abbrev pub AreHeld : (List ℕ → Option (List ℕ)) → List (List ℕ) → ℕ → List (List ℕ) → Type 0
 AreHeld held words i [] = ⊤
 AreHeld held words i (text ∷ texts) = IfSome (held (word_at words i)) (λ there. there ≡ text) × AreHeld held words (i + 1) texts
-
--- a reply that the command gives over such bytes
-pub record SaidOver (o : Outcome) (c : Single) : Type 0 where
-  pub texts : List (List ℕ)
-  pub held : AreHeld o.loads.held o.words 1 texts
-  pub tells : ShowsReply o (MayReply c o.words o.book texts)
 
 abbrev saying : Transcript → Ending
 saying t = Ok t
@@ -170,13 +184,14 @@ within : (o : Option Stop) (t : Transcript) (says : Transcript → Type 0) → M
 within None t says h = h
 within (Some stop) t says h = cc
 
-record ClosesOver (l : Loads) (words : List (List ℕ)) (i : ℕ) (files : List (List ℕ)) (closes : List (List ℕ) → Ending → Type 0) (t : Transcript) : Type 0 where
+record ClosesOver (l : Loads) (words : List (List ℕ)) (i : ℕ) (kinds : List FileKind) (files : List (List ℕ)) (closes : List (List ℕ) → Ending → Type 0) (t : Transcript) : Type 0 where
   texts : List (List ℕ)
   held : AreHeld l.held words i texts
+  long : length texts ≡ length kinds
   closed : closes (files ++ texts) (saying t)
 
-over_files : (l : Loads) (words : List (List ℕ)) (i : ℕ) (kinds : List FileKind) (files : List (List ℕ)) (closes : List (List ℕ) → Ending → Type 0) (t : Transcript) → InOrder l words i kinds files closes (saying t) → ClosesOver l words i files closes t
-over_files l words i [] files closes t h = record { texts = []; held = tt; closed = subst (λ (fs : List (List ℕ)). closes fs (saying t)) (sym (append-nil files)) h }
+over_files : (l : Loads) (words : List (List ℕ)) (i : ℕ) (kinds : List FileKind) (files : List (List ℕ)) (closes : List (List ℕ) → Ending → Type 0) (t : Transcript) → InOrder l words i kinds files closes (saying t) → ClosesOver l words i kinds files closes t
+over_files l words i [] files closes t h = record { texts = []; held = tt; long = refl; closed = subst (λ (fs : List (List ℕ)). closes fs (saying t)) (sym (append-nil files)) h }
 over_files l words i (kind ∷ kinds) files closes t h =
     elim h [
       | inl s ↦ absurd s
@@ -185,22 +200,10 @@ over_files l words i (kind ∷ kinds) files closes t h =
           record {
             texts = b.0 ∷ rest.texts;
             held = (b.1.told, rest.held);
+            long = ap suc rest.long;
             closed = subst (λ (fs : List (List ℕ)). closes fs (saying t)) (append_assoc files (b.0 ∷ []) rest.texts) rest.closed;
           }
     ]
-
-said_by : (o : Outcome) (c : Single) (e : Ending) → (IsStopStatus o.status → ⊥) → MayAnswer o.loads o.words (One c) o.book e → HasStatus e o.status → Took o.before o.now (ending_texts e) → SaidOver o c
-said_by o c (Ok t) answers h shown put =
-    let over = over_files o.loads o.words 1 (files_of (One c)) [] (Closes (One c) o.words o.book) t h in
-    let says = within (halts (One c) o.words over.texts) t (Says (One c) o.words o.book over.texts) over.closed in
-    record { texts = over.texts; held = over.held; tells = told o (MayReply c o.words o.book over.texts) (Ok t) (λ four. answers (low_stop o.status (omega (arith, four)) (omega (arith, four)))) says shown put }
-said_by o c (Err stop) answers h shown put = absurd (answers (subst IsStopStatus (sym shown) (of_stop stop)))
-
-pub said_over : (o : Outcome) (c : Single) → Ends o → command_of o.words ≡ Some (One c) → (IsStopStatus o.status → ⊥) → SaidOver o c
-said_over o c ends command answers =
-    let e = ends.ending in
-    let memory : e ≢ Err Memory = λ p. answers (subst IsStopStatus (sym (subst (λ (x : Ending). HasStatus x o.status) p ends.shown)) (of_stop Memory)) in
-    said_by o c e answers (called o.loads o.words o.book (command_of o.words) (One c) e command (ends.due.says memory).comes) ends.shown ends.put
 
 -- ---- one reply or several over such bytes
 
@@ -208,6 +211,7 @@ said_over o c ends command answers =
 pub record ToldOver (o : Outcome) (c : Command) : Type 0 where
   pub texts : List (List ℕ)
   pub held : AreHeld o.loads.held o.words 1 texts
+  pub long : length texts ≡ length (files_of c)
   pub told : Transcript
   pub says : Says c o.words o.book texts told
   pub shown : o.status ≡ status_of_end told.end
@@ -216,7 +220,7 @@ pub record ToldOver (o : Outcome) (c : Command) : Type 0 where
 told_by : (o : Outcome) (c : Command) (e : Ending) → (IsStopStatus o.status → ⊥) → MayAnswer o.loads o.words c o.book e → HasStatus e o.status → Took o.before o.now (ending_texts e) → ToldOver o c
 told_by o c (Ok t) answers h shown put =
     let over = over_files o.loads o.words 1 (files_of c) [] (Closes c o.words o.book) t h in
-    record { texts = over.texts; held = over.held; told = t; says = within (halts c o.words over.texts) t (Says c o.words o.book over.texts) over.closed; shown = shown; put = put }
+    record { texts = over.texts; held = over.held; long = over.long; told = t; says = within (halts c o.words over.texts) t (Says c o.words o.book over.texts) over.closed; shown = shown; put = put }
 told_by o c (Err stop) answers h shown put = absurd (answers (subst IsStopStatus (sym shown) (of_stop stop)))
 
 pub told_over : (o : Outcome) (c : Command) → Ends o → command_of o.words ≡ Some c → (IsStopStatus o.status → ⊥) → ToldOver o c
@@ -225,6 +229,40 @@ told_over o c ends command answers =
     let memory : e ≢ Err Memory = λ p. answers (subst IsStopStatus (sym (subst (λ (x : Ending). HasStatus x o.status) p ends.shown)) (of_stop Memory)) in
     told_by o c e answers (called o.loads o.words o.book (command_of o.words) c e command (ends.due.says memory).comes) ends.shown ends.put
 
+-- a reply that the command gives over such bytes
+pub record SaidOver (o : Outcome) (c : Single) : Type 0 where
+  pub texts : List (List ℕ)
+  pub held : AreHeld o.loads.held o.words 1 texts
+  pub long : length texts ≡ length (files_of (One c))
+  pub tells : ShowsReply o (MayReply c o.words o.book texts)
+
+pub said_over : (o : Outcome) (c : Single) → Ends o → command_of o.words ≡ Some (One c) → (IsStopStatus o.status → ⊥) → SaidOver o c
+said_over o c ends command answers =
+    let over = told_over o (One c) ends command answers in
+    record { texts = over.texts; held = over.held; long = over.long; tells = told o (MayReply c o.words o.book over.texts) (Ok over.told) (λ four. answers (low_stop o.status (omega (arith, four)) (omega (arith, four)))) over.says over.shown over.put }
+
 -- what is told is held
 pub same_text : (o : Option (List ℕ)) (text held : List ℕ) → o ≡ Some text → IfSome o (λ there. there ≡ held) → text ≡ held
 same_text o text held told is = subst (λ (o : Option (List ℕ)). IfSome o (λ there. there ≡ held)) told is
+
+-- ---- over the bytes that are told
+
+same_texts : (held : List ℕ → Option (List ℕ)) (words : List (List ℕ)) (i : ℕ) (texts others : List (List ℕ)) → AreHeld held words i texts → AreTold held words i others → length texts ≡ length others → texts ≡ others
+same_texts held words i [] [] read told long = refl
+same_texts held words i [] (other ∷ others) read told long = cc
+same_texts held words i (text ∷ texts) [] read told long = cc
+same_texts held words i (text ∷ texts) (other ∷ others) read told long =
+    let first : other ≡ text = same_text (held (word_at words i)) other text told.0 read.0 in
+    let rest = same_texts held words (i + 1) texts others read.1 told.1 (omega (arith, long)) in
+    cc
+
+-- so a command with one reply replies over them, as many as it has files
+pub reply_over : (o : Outcome) (c : Single) (texts : List (List ℕ)) → Ends o → CallsWith o (One c) texts → length (files_of (One c)) ≡ length texts → (IsStopStatus o.status → ⊥) → ShowsReply o (MayReply c o.words o.book texts)
+reply_over o c texts ends asks many answers =
+    let over = said_over o c ends asks.command answers in
+    subst (λ (ts : List (List ℕ)). ShowsReply o (MayReply c o.words o.book ts)) (same_texts o.loads.held o.words 1 over.texts texts over.held asks.told (over.long ∙ many)) over.tells
+
+-- and one with several says what it may
+pub says_over : (o : Outcome) (c : Command) (texts : List (List ℕ)) → CallsWith o c texts → length (files_of c) ≡ length texts → (over : ToldOver o c) → Says c o.words o.book texts over.told
+says_over o c texts asks many over =
+    subst (λ (ts : List (List ℕ)). Says c o.words o.book ts over.told) (same_texts o.loads.held o.words 1 over.texts texts over.held asks.told (over.long ∙ many)) over.says

@@ -1,10 +1,9 @@
 -- What the status of a question of costs tells.
-use Rattle.std.proofs.Common.{◌≡◌, ◌≤◌, ◌<◌, ◌^◌, ℕ, List, [], ◌∷◌, Option, Some, None, IfSome, sym, ◌∙◌, subst, arith}
+use Rattle.std.proofs.Common.{◌≡◌, ◌≤◌, ◌<◌, ◌^◌, ℕ, List, [], ◌∷◌, Option, Some, None, IfSome, sym, ◌∙◌, subst, arith, refl}
 use Rattle.cost_least.specs.Answers.{CostAsked, IsKnownAbove, IsPriced}
 use Rattle.answers.specs.declared.cheap.Cheap.{Cheap}
 use Rattle.answers.specs.declared.cheap.Cheap.TheVariants.{Found, Absent, Dear, Undecided}
 use Rattle.answers.specs.declared.cheap.Priced.{Priced}
-use Rattle.des_base.specs.CommandWords.{word_at}
 use Rattle.des_base.specs.Outside.{Took}
 use Rattle.pricing.specs.LeastCost.{IsPricedBy, cost_variables}
 use Rattle.pricing.proofs.PricedBooks.{unpriced_is_small}
@@ -22,11 +21,10 @@ use Rattle.endings.specs.declared.ending.Kind.{Kind}
 use Rattle.diagnose_cli.specs.CheapReplies.{SaysCheap, kind_of_cheap}
 use Rattle.diagnose_cli.specs.CheapRows.{TellsCheapest, TellsDear, TellsUnpriced, cost_asked}
 use Rattle.endings.specs.Endings.{status_of_kind}
-use Rattle.diagnose_cli.specs.Due.{MayReply}
 use Rattle.diagnose_cli.specs.Outcomes.{Outcome, ShowsReply}
-use Rattle.diagnose_cli.specs.Rows.{AreTold, CallsWith}
+use Rattle.diagnose_cli.specs.Rows.{CallsWith}
 use Rattle.diagnose_cli.specs.Run.{Ends}
-use Rattle.diagnose_cli.proofs.Answered.{AreHeld, IsStopStatus, between, said_over, same_text}
+use Rattle.diagnose_cli.proofs.Answered.{IsStopStatus, between, reply_over}
 
 -- ---- what is told of a question of costs
 
@@ -48,21 +46,9 @@ of_reply o q budget tells = record {
 }
 
 -- over the three texts that are told
-over_texts : (o : Outcome) (n budget : ℕ) (text alarms prices : List ℕ) (texts : List (List ℕ)) → AreTold o.loads.held o.words 1 (text ∷ alarms ∷ prices ∷ []) → AreHeld o.loads.held o.words 1 texts
-    → ShowsReply o (MayReply (Cheapest n budget) o.words o.book texts) → ShowsReply o (Saying (cost_asked text alarms prices n) budget o.book)
-over_texts o n budget text alarms prices [] there held tells = absurd tells.says
-over_texts o n budget text alarms prices (model ∷ []) there held tells = absurd tells.says
-over_texts o n budget text alarms prices (model ∷ rows ∷ []) there held tells = absurd tells.says
-over_texts o n budget text alarms prices (model ∷ rows ∷ costs ∷ []) there held tells =
-    let of_model = subst (λ (m : List ℕ). ShowsReply o (Saying (cost_asked m rows costs n) budget o.book)) (sym (same_text (o.loads.held (word_at o.words 1)) text model there.0 held.0)) tells in
-    let of_log = subst (λ (a : List ℕ). ShowsReply o (Saying (cost_asked text a costs n) budget o.book)) (sym (same_text (o.loads.held (word_at o.words 2)) alarms rows there.1.0 held.1.0)) of_model in
-    subst (λ (p : List ℕ). ShowsReply o (Saying (cost_asked text alarms p n) budget o.book)) (sym (same_text (o.loads.held (word_at o.words 3)) prices costs there.1.1.0 held.1.1.0)) of_log
-over_texts o n budget text alarms prices (model ∷ rows ∷ costs ∷ other ∷ texts) there held tells = absurd tells.says
-
 told : (o : Outcome) (n budget : ℕ) (text alarms prices : List ℕ) → Ends o → CallsWith o (One (Cheapest n budget)) (text ∷ alarms ∷ prices ∷ []) → (IsStopStatus o.status → ⊥) → TellsPriced o (cost_asked text alarms prices n) budget
 told o n budget text alarms prices ends asks answers =
-    let over = said_over o (Cheapest n budget) ends asks.command answers in
-    of_reply o (cost_asked text alarms prices n) budget (over_texts o n budget text alarms prices over.texts asks.told over.held over.tells)
+    of_reply o (cost_asked text alarms prices n) budget (reply_over o (Cheapest n budget) (text ∷ alarms ∷ prices ∷ []) ends asks refl answers)
 
 -- ---- by the status
 

@@ -1,5 +1,5 @@
 -- A budget that suffices decides.
-use Rattle.std.proofs.Common.{◌≡◌, ◌≤◌, ◌^◌, ℕ, List, [], ◌∷◌, ap, sym, ◌∙◌, arith}
+use Rattle.std.proofs.Common.{◌≡◌, ◌≤◌, ◌^◌, ℕ, List, [], ◌∷◌, ap, refl, sym, ◌∙◌, arith}
 use Rattle.gen_plant.specs.Plant.{plant_net, plant_log}
 use Rattle.replay.specs.QuestionSize.{variable_bound}
 use Rattle.diagnose_cli.specs.declared.command.Command.{Command}
@@ -7,30 +7,20 @@ use Rattle.diagnose_cli.specs.declared.command.Command.TheVariants.{One, Session
 use Rattle.diagnose_cli.specs.declared.command.Single.TheVariants.{Trace, Show, Replay, Check, Ask, GenerateModel, GenerateLog, Bench, Twin, Cheapest}
 use Rattle.endings.specs.declared.ending.Kind.{Kind}
 use Rattle.diagnose_cli.specs.Deciding.{Suffices}
-use Rattle.diagnose_cli.specs.Outcomes.{Outcome, ShowsReply}
-use Rattle.diagnose_cli.specs.Due.{MayReply}
-use Rattle.diagnose_cli.specs.Replies.{SaysBenched}
+use Rattle.diagnose_cli.specs.Outcomes.{Outcome}
 use Rattle.diagnose_cli.specs.Rows.{CallsWith}
 use Rattle.diagnose_cli.specs.Run.{Ends}
-use Rattle.diagnose_cli.proofs.Answered.{between, said_over}
+use Rattle.diagnose_cli.proofs.Answered.{between, reply_over}
 use Rattle.diagnose_cli.proofs.CheapStatus.{priced_by}
 use Rattle.diagnose_cli.proofs.Diagnosing.{found_decided}
 use Rattle.diagnose_cli.proofs.StatusRows.{decided, left_open}
-
--- ---- a summary
-
--- without texts
-over_none : (o : Outcome) (units start steps budget : ℕ) (texts : List (List ℕ)) → ShowsReply o (MayReply (Bench units start steps budget) o.words o.book texts) → ShowsReply o (SaysBenched units start steps budget o.book)
-over_none o units start steps budget [] tells = tells
-over_none o units start steps budget (text ∷ texts) tells = absurd tells.says
 
 -- ---- whichever command asks
 
 module _ (o : Outcome) (ends : Ends o) where
   bench_decided : (units start steps budget : ℕ) → CallsWith o (One (Bench units start steps budget)) [] → 3 ^ variable_bound (plant_net units) (plant_log units start) steps ≤ budget → o.status ≡ 11 → ⊥
   bench_decided units start steps budget asks enough is =
-      let over = said_over o (Bench units start steps budget) ends asks.command (between o.status 11 is (omega arith) (omega arith)) in
-      let tells = over_none o units start steps budget over.texts over.tells in
+      let tells = reply_over o (Bench units start steps budget) [] ends asks refl (between o.status 11 is (omega arith) (omega arith)) in
       let said = tells.says in
       found_decided (plant_net units) (plant_log units start) steps budget o.book said.found said.holds.diagnosed enough (sym (ap (λ (r : Kind × List ℕ). r.0) said.is) ∙ left_open o tells is)
 

@@ -4,12 +4,10 @@ use Rattle.des_base.specs.Outside.{Took}
 use Rattle.diagnose_cli.specs.declared.command.Command.{Command}
 use Rattle.endings.specs.declared.stop.Stop.TheVariants.{Usage, Load, Faulty, Long, NoFault, Large, Memory}
 use Rattle.endings.specs.declared.stop.FaultyText.{FaultyText}
-use Rattle.endings.specs.declared.stop.FaultyText.TheVariants.{Model, Log, Run, Cnf, Lrat, Cost}
-use Rattle.endings.specs.declared.ending.Kind.{Kind}
-use Rattle.endings.specs.declared.ending.Kind.TheVariants.{Done, Rejected, Absent, Undecided, Many, Nothing, Ambiguous}
 use Rattle.endings.specs.Transcripts.{End, said, cut, broken, Ending, Transcript, UnlessMemory}
-use Rattle.endings.specs.Endings.{HasStatus, status_of_end, status_of_kind, status_of_faulty, ending_texts}
+use Rattle.endings.specs.Endings.{HasStatus, status_of_end, ending_texts}
 use Rattle.endings.specs.Texts.{FileKind, fault_of_text}
+use Rattle.diagnose_cli.proofs.Answered.{IsStopStatus, faulty_high, low_stop, no_stop_kind}
 use Rattle.diagnose_cli.specs.Commands.{files_of, file_count, command_of}
 use Rattle.diagnose_cli.specs.Due.{Says, lacks_fault, stop_by, too_large, Closes, InOrder, MayAnswer, Due}
 use Rattle.diagnose_cli.specs.Outcomes.{Outcome}
@@ -54,25 +52,8 @@ rose_at o j (Some c) m =
     let rose = rose_in_order o (file_count c) 1 (files_of c) [] (Closes c o.words o.book) j (λ texts. never_closes j (lacks_fault c o.words texts) (too_large c texts) (Says c o.words o.book texts)) (omega arith) (omega arith) m in
     ((rose.first, rose.within), rose.rose)
 
-no_load_kind : (k : Kind) → 3 ≡ status_of_kind k → ⊥
-no_load_kind Done p = cc
-no_load_kind Rejected p = cc
-no_load_kind Absent p = cc
-no_load_kind Undecided p = cc
-no_load_kind Many p = cc
-no_load_kind Nothing p = cc
-no_load_kind Ambiguous p = cc
-
-no_load_text : (text : FaultyText) → 3 ≡ status_of_faulty text → ⊥
-no_load_text (Model fault) p = cc
-no_load_text (Log fault) p = cc
-no_load_text (Run fault) p = cc
-no_load_text (Cnf fault) p = cc
-no_load_text (Lrat fault) p = cc
-no_load_text (Cost fault) p = cc
-
 no_load_end : (end : End) → 3 ≡ status_of_end end → ⊥
-no_load_end (said kind) p = no_load_kind kind p
+no_load_end (said kind) p = no_stop_kind kind (subst IsStopStatus p (low_stop 3 (omega arith) (omega arith)))
 no_load_end cut p = cc
 no_load_end broken p = cc
 
@@ -82,7 +63,7 @@ load_row_of o (Err Usage) d p t = absurd (omega arith)
 load_row_of o (Err (Load i)) d p t =
     let rose = rose_at o i (command_of o.words) (d (λ m. cc)) in
     record { file = i; known = rose.0; rose = rose.1; put = t }
-load_row_of o (Err (Faulty text)) d p t = absurd (no_load_text text p)
+load_row_of o (Err (Faulty text)) d p t = let high = faulty_high text in absurd (omega (arith, high, p))
 load_row_of o (Err (Long i)) d p t = absurd (omega arith)
 load_row_of o (Err NoFault) d p t = absurd (omega arith)
 load_row_of o (Err (Large size)) d p t = absurd (omega arith)

@@ -1,5 +1,5 @@
 -- The run of a command, which has one reply or several.
-use Rattle.std.proofs.Common.{◌≡◌, ◌≢◌, ◌∙◌, arith, ℕ, IfErr, IfOk, List, [], ◌∷◌, Some, Result, Ok, Err, refl, sym, ap, subst}
+use Rattle.std.proofs.Common.{◌≡◌, ◌≢◌, ◌∙◌, arith, inl, inr, ℕ, IfErr, IfOk, List, [], ◌∷◌, Option, Some, Result, Ok, Err, refl, sym, ap, subst}
 use Rattle.des_base.specs.Outside.{Output}
 use Rattle.proof_ledger.specs.Book.{BookEntry}
 use Rattle.diagnose_cli.specs.declared.command.Command.{Command}
@@ -7,11 +7,10 @@ use Rattle.diagnose_cli.specs.declared.command.Command.TheVariants.{One, Session
 use Rattle.diagnose_cli.specs.declared.command.Single.{Single}
 use Rattle.diagnose_cli.specs.declared.command.Single.TheVariants.{Trace, Show, Replay, Check, Ask, GenerateModel, GenerateLog, Bench, Twin, Cheapest}
 use Rattle.endings.specs.declared.ending.Kind.{Kind}
-use Rattle.endings.specs.declared.ending.Kind.TheVariants.{Done, Rejected, Absent, Undecided, Many, Nothing, Ambiguous}
 use Rattle.endings.specs.declared.stop.Stop.{Stop}
 use Rattle.endings.specs.declared.stop.Stop.TheVariants.{Memory}
 use Rattle.endings.specs.Transcripts.{Ending, cut_short, once}
-use Rattle.endings.specs.Endings.{HasStatus, status_of_kind, status_of_stop}
+use Rattle.endings.specs.Endings.{HasStatus, status_of_stop}
 use Rattle.endings.specs.Files.{Loads}
 use Rattle.diagnose_cli.specs.Commands.{command_of, files_of}
 use Rattle.diagnose_cli.specs.Due.{Due, HasNotBegun, StopsEmpty}
@@ -19,13 +18,13 @@ use Rattle.endings.specs.Puts.{Puts, Speaks}
 use Rattle.diagnose_cli.specs.Outcomes.{Outcome, outcome}
 use Rattle.diagnose_cli.specs.Rows.{Row, RowAlone, CheckRows, DiagnoseRows}
 use Rattle.diagnose_cli.specs.Run.{Ends, Ran, Does, SaysStop}
-use Rattle.diagnose_cli.proofs.Answered.{row}
+use Rattle.diagnose_cli.proofs.Answered.{IsStopStatus, no_stop_kind, row}
 use Rattle.diagnose_cli.proofs.Deciding.{decided_row}
 use Rattle.diagnose_cli.proofs.Exact.{stop_row}
 use Rattle.diagnose_cli.proofs.FailedLoads.{load_row, no_load_failed}
 use Rattle.diagnose_cli.proofs.SessionRows.{session_row}
 use Rattle.diagnose_cli.proofs.StatusRows.{refuted, explained, absent, undecided, many, diagnosed as decided_by}
-use Rattle.diagnose_cli.proofs.StopStatus.{above, between}
+use Rattle.diagnose_cli.proofs.StopStatus.{between}
 use Rattle.diagnose_cli.proofs.TwinStatus.{alike, clear, untested, tested_by}
 use Rattle.diagnose_cli.specs.TwinRows.{TwinRows}
 use Rattle.diagnose_cli.specs.CheapRows.{CheapRows}
@@ -131,22 +130,16 @@ done l words before now book status rose speaks = does (outcome l words before n
 
 -- ---- what a command leaves that stops
 
--- no reply has the status of a stop
-no_reply : (kind : Kind) → SaysStop (status_of_kind kind) → ⊥
-no_reply Done stop = absurd (omega (arith, stop.low))
-no_reply Rejected stop = absurd (between 13 stop (omega arith) (omega arith))
-no_reply Absent stop = absurd (between 10 stop (omega arith) (omega arith))
-no_reply Undecided stop = absurd (between 11 stop (omega arith) (omega arith))
-no_reply Many stop = absurd (between 12 stop (omega arith) (omega arith))
-no_reply Nothing stop = absurd (between 14 stop (omega arith) (omega arith))
-no_reply Ambiguous stop = absurd (above 17 stop (omega arith))
+-- it stops
+is_stop : (status : ℕ) → SaysStop status → IsStopStatus status
+is_stop status stop = record { low = stop.low; among = elim stop.among [ inl low ↦ inl (omega (arith, low)) | inr high ↦ inr high ] }
 
 nine_of : (stop : Stop) → stop ≡ Memory → status_of_stop stop ≡ 9
 nine_of stop is = ap status_of_stop is
 
 -- so what an ending leaves that has none is left
 stop_told : (r : Result (Kind × List ℕ) Stop) (P : Type 0) (status : ℕ) → IfErr r (λ stop. stop ≢ Memory → P) → HasStatus (once r) status → SaysStop status → P
-stop_told (Ok reply) P status left shown stop = absurd (no_reply reply.0 (subst SaysStop shown stop))
+stop_told (Ok reply) P status left shown stop = absurd (no_stop_kind reply.0 (subst IsStopStatus shown (is_stop status stop)))
 stop_told (Err why) P status left shown stop = left (λ is. let nine = nine_of why is in between status stop (omega (arith, shown, nine)) (omega (arith, shown, nine)))
 
 pub stop_left : (r : Result (Kind × List ℕ) Stop) (P : Type 0) (before now : Output) (rose : Type 0) (status : ℕ) → Puts (once r) before now rose status → IfErr r (λ stop. stop ≢ Memory → P) → SaysStop status → P

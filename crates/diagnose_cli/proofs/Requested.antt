@@ -1,15 +1,25 @@
 -- Words that ask a question, or none.
-use Rattle.std.proofs.Common.{◌≡◌, ◌∙◌, true, false, ℕ, List, Option, Err, ap, refl, subst, sym}
-use Rattle.std.specs.Prelude.{option_map}
+use Rattle.std.proofs.Common.{◌≡◌, ◌∙◌, true, false, ℕ, List, [], ◌∷◌, Option, Err, ap, refl, subst, sym}
+use Rattle.std.specs.Prelude.{Bool, cond, option_map}
 use Rattle.des_base.specs.CommandWords.{word_at}
-use Rattle.diagnose_cli.specs.Asking.{AnswersRequest, IsAnswerDue}
-use Rattle.diagnose_cli.specs.Questions.{is_request, named_questions, request_among, request_by, request_of, AreWordsOf, NamedQuestion, NoRequest, Request, Requests}
-use Rattle.diagnose_cli.specs.Rows.{LeavesRequest}
+use Rattle.diagnose_cli.specs.Due.{AnswersSpelled, Closes, EndsBySize, MayAnswer}
+use Rattle.diagnose_cli.proofs.Left.{LeftBy, empty_left}
+use Rattle.endings.specs.Transcripts.{Ending, IsOne}
+use Rattle.diagnose_cli.specs.Questions.{AnswersTo, RepliesTo, is_request, named_questions, request_among, request_by, request_of, AreWordsOf, NamedQuestion, NoRequest, Request, Requests}
+use Rattle.diagnose_cli.specs.declared.command.Command.TheVariants.{One}
+use Rattle.diagnose_cli.specs.declared.command.Single.TheVariants.{Ask}
+use Rattle.diagnose_cli.specs.FilesRead.{IsCaseRead}
+use Rattle.diagnose_cli.specs.Rows.{Leaves, LeavesRequest}
+use Rattle.diagnose_cli.proofs.ReadOver.{over_case}
+use Rattle.des_net.specs.Network.{Net}
+use Rattle.inquiries.specs.Begun.{LeavesQuestion, MayLearn}
+use Rattle.log_order.specs.Log.{Log}
 use Rattle.endings.specs.Files.{Loads}
 use Rattle.endings.specs.declared.stop.Stop.TheVariants.{Usage}
 use Rattle.log_csv.specs.LogText.{log_of}
 use Rattle.model_text.specs.ModelFaults.{network_of}
 use Rattle.proof_ledger.specs.Book.{BookEntry}
+use Rattle.replay.specs.QuestionSize.{question_size}
 
 -- the question is among those that have names, whatever its last word
 module _ (question : NamedQuestion) (words : List (List ℕ)) (listed : (last : List ℕ) → request_among named_questions question.name last ≡ request_by question (question.spelled last)) where
@@ -28,9 +38,23 @@ module _ (question : NamedQuestion) (words : List (List ℕ)) (listed : (last : 
 pub never_unasked : (request : Request) (question : NamedQuestion) (word : question.Word) → request ≡ Requests question word → is_request request ≡ false → ⊥
 never_unasked _ question word is none = let never : true ≡ false = sym (ap is_request is) ∙ none in cc
 
--- that the words call no command is due where they ask none
-pub usage_for : (l : Loads) (words : List (List ℕ)) (steps : ℕ) (request : Request) (book : List BookEntry) → request ≡ NoRequest → IsAnswerDue l words steps request book (Err Usage)
-usage_for l words steps asked book none = record {
-  due = λ never. subst (λ (r : Request). AnswersRequest l words steps r book (Err Usage)) (sym none) refl;
-  left = λ text alarms told. subst (λ (r : Request). LeavesRequest r (network_of text) (log_of alarms) steps book) (sym none) tt;
-}
+-- that the words call no command is due where they ask none, and then the book is empty
+pub usage_for : (l : Loads) (words : List (List ℕ)) (steps : ℕ) (book : List BookEntry) → request_of words ≡ NoRequest → AnswersSpelled l words (One (Ask steps)) book (Err Usage)
+usage_for l words steps book none = subst (λ (b : Bool). cond b (MayAnswer l words (One (Ask steps)) book (Err Usage)) (◌≡◌ {A = Ending} (Err Usage) (Err Usage))) (sym (ap is_request none)) refl
+
+pub none_asked : (held : List ℕ → Option (List ℕ)) (steps : ℕ) (words : List (List ℕ)) (book : List BookEntry) → book ≡ [] → LeftBy held words book (One (Ask steps))
+none_asked held steps words book none texts told = subst (λ (b : List BookEntry). Leaves (One (Ask steps)) words texts b) (sym none) (empty_left (One (Ask steps)) words texts)
+
+-- what an inquiry leaves is what is left of the words that ask it
+pub left_asked : (steps : ℕ) (words : List (List ℕ)) (book : List BookEntry) (question : NamedQuestion) (word : question.Word) → request_of words ≡ Requests question word
+    → (texts : List (List ℕ)) (net : Net) (log : Log) → IsCaseRead texts net log → LeavesQuestion net log steps (MayLearn (question.budget word)) book → Leaves (One (Ask steps)) words texts book
+left_asked steps words book question word asked texts net log read left =
+    over_case (λ ts. Leaves (One (Ask steps)) words ts book) texts (λ n l. LeavesQuestion n l steps (MayLearn (question.budget word)) book)
+    (λ text alarms h. subst (λ (r : Request). LeavesRequest r (network_of text) (log_of alarms) steps book) (sym asked) h) net log read left
+
+-- and how a question ends so do they
+pub closes_asked : (steps : ℕ) (words : List (List ℕ)) (book : List BookEntry) (question : NamedQuestion) (word : question.Word) → request_of words ≡ Requests question word
+    → (texts : List (List ℕ)) (net : Net) (log : Log) → IsCaseRead texts net log → (e : Ending) → EndsBySize (question_size net log steps) (IsOne (AnswersTo question word net log steps book)) e → Closes (One (Ask steps)) words book texts e
+closes_asked steps words book question word asked texts net log read e ends =
+    over_case (λ ts. Closes (One (Ask steps)) words book ts e) texts (λ n l. EndsBySize (question_size n l steps) (IsOne (AnswersTo question word n l steps book)) e)
+    (λ text alarms h. subst (λ (r : Request). EndsBySize (question_size (network_of text) (log_of alarms) steps) (IsOne (RepliesTo r steps book (text ∷ alarms ∷ []))) e) (sym asked) h) net log read ends

@@ -1,39 +1,29 @@
 -- How a session ends, by how its rows went.
-use Rattle.std.proofs.Common.{◌≡◌, ◌≢◌, ◌≤◌, ◌<◌, ◌∙◌, ℕ, List, [], ◌∷◌, Option, Some, None, Result, Ok, Err, IsErrOf, IsOkAnd, MatchOption, refl, sym, ap, subst, arith}
-use Rattle.std.specs.Prelude.{option_map}
+use Rattle.std.proofs.Common.{◌≡◌, ◌≢◌, ◌≤◌, ℕ, List, [], Option, Some, Result, Ok, Err, IsErrOf, IsOkAnd, MatchOption, refl, sym, ap, subst, arith}
 use Rattle.des_base.specs.Outside.{Output}
-use Rattle.des_net.specs.Network.{Net}
 use Rattle.least_faults.specs.declared.TheConstants.{MOST_SIZE}
-use Rattle.log_csv.specs.ScriptText.{script_of}
-use Rattle.log_csv.specs.declared.row.Row.{Row}
-use Rattle.log_order.specs.Log.{no_log}
-use Rattle.model_text.specs.ModelFaults.{network_of}
 use Rattle.proof_ledger.specs.Book.{BookEntry}
-use Rattle.replay.specs.QuestionSize.{question_size}
 use Rattle.diagnose_cli.specs.declared.command.Command.{Command}
-use Rattle.diagnose_cli.specs.declared.command.Command.TheVariants.{Session}
 use Rattle.telling.specs.declared.each.Broken.{Broken}
 use Rattle.telling.specs.declared.each.Broken.TheVariants.{Memory, Put}
 use Rattle.endings.specs.declared.ending.Kind.{Kind}
 use Rattle.endings.specs.declared.stop.Stop.{Stop}
-use Rattle.endings.specs.declared.stop.Stop.TheVariants.{Large, Usage, Memory as NoMemory}
-use Rattle.endings.specs.Texts.{script}
-use Rattle.diagnose_cli.specs.FirstTwo.{IsScriptCase, StopsAtFirstTwo}
-use Rattle.diagnose_cli.specs.Commands.{command_of}
-use Rattle.diagnose_cli.specs.SessionReplies.{IsSession}
-use Rattle.diagnose_cli.specs.Due.{MayAnswer, Closes, Due, HasNotBegun, StopsEmpty, above_limit}
+use Rattle.endings.specs.declared.stop.Stop.TheVariants.{Usage, Memory as NoMemory}
+use Rattle.diagnose_cli.specs.FilesRead.{AreBytes, StopsAmong}
+use Rattle.diagnose_cli.specs.Commands.{command_of, files_of}
+use Rattle.diagnose_cli.specs.Due.{MayAnswer, Closes, Due, EndsBySize, HasNotBegun, StopsEmpty}
 use Rattle.endings.specs.Files.{Loads}
 use Rattle.endings.specs.Puts.{Finishes, Speaks}
 use Rattle.diagnose_cli.specs.Run.{SaysStop}
-use Rattle.diagnose_cli.specs.Sessions.{MaySay, status_of_session}
-use Rattle.endings.specs.Transcripts.{Ending, OrMemory, UnlessMemory, once}
-use Rattle.diagnose_cli.proofs.Limits.{within_limit, past_limit}
+use Rattle.diagnose_cli.specs.Sessions.{status_of_session}
+use Rattle.endings.specs.Transcripts.{Ending, OrMemory, Transcript, UnlessMemory, once}
+use Rattle.diagnose_cli.proofs.Limits.{ends_within}
 use Rattle.telling.specs.Telling.{RisesExactlyIf}
 use Rattle.telling.proofs.Failing.{fails_alike}
 use Rattle.telling.proofs.Taking.{nothing_taken}
 use Rattle.endings.proofs.Once.{wants_memory}
 use Rattle.endings.proofs.Speaking.{put_speaks}
-use Rattle.diagnose_cli.proofs.Orders.{stops_in_two, with_two}
+use Rattle.diagnose_cli.proofs.FilesInOrder.{all_read, stops_among}
 use Rattle.diagnose_cli.proofs.StopStatus.{between}
 
 -- ---- by its status
@@ -69,40 +59,18 @@ no_stop (Ok done) status is stop = absurd (omega (arith, is, stop.low))
 no_stop (Err Memory) status is stop = absurd (between status stop (omega (arith, is)) (omega (arith, is)))
 no_stop (Err Put) status is stop = absurd (stop.put is)
 
--- ---- over its two files
+-- ---- several replies to a question of this size
 
-module _ (steps budget : ℕ) (words : List (List ℕ)) (book : List BookEntry) (net : Net) (rows : List Row) (text lines : List ℕ) (network : net ≡ network_of text) (script : rows ≡ script_of lines) where
-  abbrev size : ℕ
-  size = question_size (network_of text) no_log steps
+-- the book is as it was where it stops
+module _ (size : ℕ) (says : Transcript → Type 0) (book : List BookEntry) where
+  said_in_book : (k : ℕ) → k ≡ size → k ≤ MOST_SIZE → (e : Ending) → IsOkAnd e says → StopsEmpty (EndsBySize size says) book e
+  said_in_book k is small (Ok told) h = record { comes = ends_within size k says (Ok told) is small h; empty = tt }
+  said_in_book k is small (Err stop) h = absurd h
 
-  -- what closes over them where the size is known
-  closes_by : (o : Option ℕ) (e : Ending) → above_limit size ≡ o → MatchOption (option_map (λ k. Large k) o) (IsOkAnd e (IsSession (network_of text) steps budget (script_of lines) book)) (λ stop. e ≡ Err stop) → Closes (Session steps budget) words book (text ∷ lines ∷ []) e
-  closes_by o e is h = subst (λ (p : Option ℕ). MatchOption (option_map (λ k. Large k) p) (IsOkAnd e (IsSession (network_of text) steps budget (script_of lines) book)) (λ stop. e ≡ Err stop)) (sym is) h
-
-  pub empty_too_large : (k : ℕ) → k ≡ question_size net no_log steps → MOST_SIZE < k → Closes (Session steps budget) words book (text ∷ lines ∷ []) (Err (Large k))
-  empty_too_large k is above =
-      closes_by (Some k) (Err (Large k)) (ap above_limit (sym (is ∙ ap (λ m. question_size m no_log steps) network)) ∙ past_limit k above) refl
-
-  -- what a session may say
-  abbrev Says : Net → List Row → Ending → Type 0
-  Says of_net of_rows e = IsOkAnd e (IsSession of_net steps budget of_rows book)
-
-  may_say : (k : ℕ) → k ≡ question_size net no_log steps → k ≤ MOST_SIZE → (e : Ending) → Says net rows e → Closes (Session steps budget) words book (text ∷ lines ∷ []) e
-  may_say k is small e says =
-      let of_net = subst (λ (m : Net). Says m rows e) network says in
-      closes_by None e (within_limit size (subst (λ j. j ≤ MOST_SIZE) (is ∙ ap (λ m. question_size m no_log steps) network) small)) (subst (λ (rs : List Row). Says (network_of text) rs e) script of_net)
-
-  -- so the book is as it was where it stops
-  said_in_book : (k : ℕ) → k ≡ question_size net no_log steps → k ≤ MOST_SIZE → (e : Ending) → Says net rows e → StopsEmpty (Closes (Session steps budget) words book (text ∷ lines ∷ [])) book e
-  said_in_book k is small (Ok told) says = record { comes = may_say k is small (Ok told) says; empty = tt }
-  said_in_book k is small (Err stop) says = absurd says
-
-  pub session_speaks : (k : ℕ) (before now : Output) (rose : Type 0) (r : Result (Unit {0}) Broken) (status : ℕ) → k ≡ question_size net no_log steps → k ≤ MOST_SIZE → status ≡ status_of_session r
-      → Speaks (MaySay net steps budget rows book) (book ≡ []) before now rose (status_of_session r) → Speaks (StopsEmpty (Closes (Session steps budget) words book (text ∷ lines ∷ [])) book) (book ≡ []) before now rose status
-  session_speaks k before now rose r status is small shown speaks =
-      let closes = StopsEmpty (Closes (Session steps budget) words book (text ∷ lines ∷ [])) book in
-      subst (Speaks closes (book ≡ []) before now rose) (sym shown)
-      (speaks_weaker (MaySay net steps budget rows book) closes (said_in_book k is small) (book ≡ []) (book ≡ []) (λ none. none) before now rose (status_of_session r) speaks)
+  pub sized_speaks : (k : ℕ) → k ≡ size → k ≤ MOST_SIZE → (lost : Type 0) (before now : Output) (rose : Type 0) (status other : ℕ) → status ≡ other → Speaks (λ e. IsOkAnd e says) lost before now rose other → Speaks (StopsEmpty (EndsBySize size says) book) lost before now rose status
+  sized_speaks k is small lost before now rose status other shown speaks =
+      subst (Speaks (StopsEmpty (EndsBySize size says) book) lost before now rose) (sym shown)
+      (speaks_weaker (λ e. IsOkAnd e says) (StopsEmpty (EndsBySize size says) book) (said_in_book k is small) lost lost (λ q. q) before now rose other speaks)
 
 -- ---- for the words that call it
 
@@ -117,14 +85,13 @@ due_for l words c book e called h = subst (λ (o : Option Command). MatchOption 
 pub not_begun : (words : List (List ℕ)) (book : List BookEntry) → book ≡ [] → HasNotBegun words book
 not_begun words book none steps budget is = none
 
-module _ (l : Loads) (words : List (List ℕ)) (steps budget : ℕ) (book : List BookEntry) (called : command_of words ≡ Some (Session steps budget)) where
-  pub plan_speaks : (net : Net) (rows : List Row) (before now : Output) (rose : Type 0) (status : ℕ) (plan : IsScriptCase l.held words net rows)
-      → Speaks (StopsEmpty (Closes (Session steps budget) words book (plan.text ∷ plan.second ∷ [])) book) (book ≡ []) before now rose status → Speaks (StopsEmpty (Due l words book) book) (HasNotBegun words book) before now rose status
-  plan_speaks net rows before now rose status plan speaks =
-      speaks_weaker (StopsEmpty (Closes (Session steps budget) words book (plan.text ∷ plan.second ∷ [])) book) (StopsEmpty (Due l words book) book)
-      (λ e h. record { comes = due_for l words (Session steps budget) book e called (with_two l words script [] (Closes (Session steps budget) words book) net (λ lines. rows ≡ script_of lines) e plan h.comes); empty = h.empty }) (book ≡ []) (HasNotBegun words book) (not_begun words book)
-      before now rose status speaks
+-- the command reads its files, and speaks over them, or stops at one of them
+module _ (l : Loads) (words : List (List ℕ)) (c : Command) (book : List BookEntry) (called : command_of words ≡ Some c) where
+  pub files_speak : (texts : List (List ℕ)) → AreBytes l.held words 1 (files_of c) [] texts → (lost : Type 0) → (lost → HasNotBegun words book) → (before now : Output) (rose : Type 0) (status : ℕ)
+      → Speaks (StopsEmpty (Closes c words book texts) book) lost before now rose status → Speaks (StopsEmpty (Due l words book) book) (HasNotBegun words book) before now rose status
+  files_speak texts read lost begun before now rose status speaks =
+      speaks_weaker (StopsEmpty (Closes c words book texts) book) (StopsEmpty (Due l words book) book)
+      (λ e h. record { comes = due_for l words c book e called (all_read l words (Closes c words book) 1 (files_of c) [] texts e read h.comes); empty = h.empty }) lost (HasNotBegun words book) begun before now rose status speaks
 
-  pub plan_stops : (stop : Stop) → (stop ≢ NoMemory → StopsAtFirstTwo script l words stop) → UnlessMemory {T = Kind × List ℕ} (Err stop) (Due l words book (once (Err stop)))
-  plan_stops stop h never =
-      due_for l words (Session steps budget) book (Err stop) called (stops_in_two l words script [] (Closes (Session steps budget) words book) stop (h (λ is. never (ap (λ s. Err s) is))))
+  pub files_stop : (stop : Stop) → (stop ≢ NoMemory → StopsAmong l words 1 (files_of c) [] stop) → UnlessMemory {T = Kind × List ℕ} (Err stop) (Due l words book (once (Err stop)))
+  files_stop stop h never = due_for l words c book (Err stop) called (stops_among l words (Closes c words book) 1 (files_of c) [] stop (h (λ is. never (ap (λ s. Err s) is))))

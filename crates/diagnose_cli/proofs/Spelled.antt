@@ -1,14 +1,15 @@
 -- What words spell they call, but for a question that they don't ask.
-use Rattle.std.proofs.Common.{◌≡◌, ◌∙◌, List, [], ℕ, Bool, true, false, Option, Some, None, Err, MatchOption, if◌then◌else◌, option_and_then, ap, refl, subst, sym}
+use Rattle.std.proofs.Common.{◌≡◌, ◌∙◌, List, [], ℕ, Bool, true, false, Option, Some, None, Err, IfSome, MatchOption, if◌then◌else◌, option_and_then, ap, refl, subst, sym}
 use Rattle.std.specs.Prelude.{cond}
 use Rattle.proof_ledger.specs.Book.{BookEntry}
 use Rattle.diagnose_cli.specs.declared.command.Command.{Command}
 use Rattle.diagnose_cli.specs.declared.command.Command.TheVariants.{One, Session}
 use Rattle.diagnose_cli.specs.declared.command.Single.{Single}
-use Rattle.diagnose_cli.specs.Commands.{command_of, is_called, read_command}
+use Rattle.diagnose_cli.specs.Commands.{command_of, files_of, is_called, read_command}
 use Rattle.diagnose_cli.specs.Due.{AnswersSpelled, Due, HasNotBegun, MayAnswer}
 use Rattle.diagnose_cli.specs.Outcomes.{Outcome}
 use Rattle.diagnose_cli.specs.Rows.{LeftRow}
+use Rattle.diagnose_cli.specs.Run.{AsksNone, LoadsNone, is_question}
 use Rattle.diagnose_cli.proofs.Left.{LeftBy, command_left, none_left}
 use Rattle.endings.specs.declared.stop.Stop.TheVariants.{Usage}
 use Rattle.endings.specs.Files.{Loads}
@@ -57,3 +58,15 @@ spelled_left o c spelled left = by (is_called o.words c) refl
     by : (b : Bool) → is_called o.words c ≡ b → LeftRow o
     by true is = command_left o c (called_so o.words c spelled is) left
     by false is = none_left o (not_called o.words c spelled is)
+
+-- the words of a command that has files
+pub has_files : (words : List (List ℕ)) (c : Command) → command_of words ≡ Some c → LoadsNone words → files_of c ≡ []
+has_files words c command none = subst (λ (o : Option Command). IfSome o (λ d. files_of d ≡ [])) command none
+
+-- the words of one that asks a question
+pub asks_nothing : (words : List (List ℕ)) (c : Command) → command_of words ≡ Some c → AsksNone words → is_question c ≡ false
+asks_nothing words c command none = subst (λ (o : Option Command). IfSome o (λ d. is_question d ≡ false)) command none
+
+-- what is answered to a command that the words call
+pub answers_called : (l : Loads) (words : List (List ℕ)) (c : Command) (book : List BookEntry) (e : Ending) → is_called words c ≡ true → MayAnswer l words c book e → AnswersSpelled l words c book e
+answers_called l words c book e is h = subst (λ (b : Bool). cond b (MayAnswer l words c book e) (e ≡ Err Usage)) (sym is) h

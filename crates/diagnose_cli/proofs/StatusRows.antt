@@ -30,10 +30,10 @@ use Rattle.diagnose_cli.specs.Due.{MayReply}
 use Rattle.diagnose_cli.specs.Questions.{diagnose_question, request_of, AnswersTo, HasEnough, IsRequestAnd, NamedQuestion, NoRequest, RepliesTo, Request, Requests}
 use Rattle.diagnose_cli.specs.Replies.{kind_of_found, reply_of_checked, AnswersQuestion, IsEnough, SaysFound}
 use Rattle.diagnose_cli.specs.Outcomes.{Outcome, ShowsReply}
-use Rattle.diagnose_cli.specs.Rows.{AreTold, CallsDiagnose, CallsWith, TellsLeast, TellsMany, TellsUndecided}
+use Rattle.diagnose_cli.specs.Rows.{CallsDiagnose, CallsWith, TellsLeast, TellsMany, TellsUndecided}
 use Rattle.diagnose_cli.specs.Run.{Ends}
 use Rattle.diagnose_cli.proofs.Requested.{asked_for}
-use Rattle.diagnose_cli.proofs.Answered.{AreHeld, IsStopStatus, between, said_over, same_text}
+use Rattle.diagnose_cli.proofs.Answered.{AreHeld, IsStopStatus, between, reply_over, said_over, same_text}
 
 -- ---- a proof that is verified
 
@@ -59,22 +59,11 @@ refuted o ends formula asks zero =
 
 -- ---- a question about a log
 
--- over the two texts that are told
-over_texts : (o : Outcome) (steps : ℕ) (question : NamedQuestion) (word : question.Word) (text alarms : List ℕ) (texts : List (List ℕ)) → AreTold o.loads.held o.words 1 (text ∷ alarms ∷ []) → AreHeld o.loads.held o.words 1 texts
-    → ShowsReply o (RepliesTo (Requests question word) steps o.book texts) → ShowsReply o (AnswersTo question word (network_of text) (log_of alarms) steps o.book)
-over_texts o steps question word text alarms [] there held tells = absurd tells.says
-over_texts o steps question word text alarms (model ∷ []) there held tells = absurd tells.says
-over_texts o steps question word text alarms (model ∷ rows ∷ []) there held tells =
-    let of_model = subst (λ (m : List ℕ). ShowsReply o (AnswersTo question word (network_of m) (log_of rows) steps o.book)) (sym (same_text (o.loads.held (word_at o.words 1)) text model there.0 held.0)) tells in
-    subst (λ (a : List ℕ). ShowsReply o (AnswersTo question word (network_of text) (log_of a) steps o.book)) (sym (same_text (o.loads.held (word_at o.words 2)) alarms rows there.1.0 held.1.0)) of_model
-over_texts o steps question word text alarms (model ∷ rows ∷ other ∷ texts) there held tells = absurd tells.says
-
 -- what is answered to a question that the words ask
 pub answer_told : (o : Outcome) (steps : ℕ) (question : NamedQuestion) (word : question.Word) (text alarms : List ℕ) → Ends o → request_of o.words ≡ Requests question word → CallsWith o (One (Ask steps)) (text ∷ alarms ∷ []) → (IsStopStatus o.status → ⊥)
     → ShowsReply o (AnswersTo question word (network_of text) (log_of alarms) steps o.book)
 answer_told o steps question word text alarms ends request asks answers =
-    let over = said_over o (Ask steps) ends asks.command answers in
-    over_texts o steps question word text alarms over.texts asks.told over.held (subst (λ (r : Request). ShowsReply o (RepliesTo r steps o.book over.texts)) request over.tells)
+    subst (λ (r : Request). ShowsReply o (RepliesTo r steps o.book (text ∷ alarms ∷ []))) request (reply_over o (Ask steps) (text ∷ alarms ∷ []) ends asks refl answers)
 
 -- ---- what is found of it
 

@@ -1,5 +1,5 @@
 -- What `twin` answers where its model is read.
-use Rattle.std.proofs.Common.{◌≡◌, ◌∙◌, ◌≤◌, ◌<◌, ℕ, List, [], ◌∷◌, length, Option, Some, None, Ok, Err, IfSome, IsOkAnd, IsSomeAnd, MatchOption, refl, ap, sym, subst, arith, inl}
+use Rattle.std.proofs.Common.{◌≡◌, ◌≤◌, ◌<◌, ℕ, List, [], ◌∷◌, length, Option, Some, None, Err, IfSome, IsOkAnd, IsSomeAnd, MatchOption, sym, subst, refl, arith}
 use Rattle.std.specs.Prelude.{All, is_none, map}
 use Rattle.std.proofs.lemmas.List.{length-map}
 use Rattle.std.proofs.lemmas.List.Elements.{All-nil, All-cons}
@@ -11,8 +11,6 @@ use Rattle.des_net.specs.Network.{Net, IsNetwork}
 use Rattle.des_net.specs.Width.{joined}
 use Rattle.event_costs.specs.CostText.{fault_event_of}
 use Rattle.least_faults.proofs.KnownEvents.{run_known}
-use Rattle.least_faults.specs.declared.TheConstants.{MOST_SIZE}
-use Rattle.model_text.specs.ModelFaults.{network_of}
 use Rattle.proof_ledger.specs.Book.{BookEntry}
 use Rattle.replay.specs.Matching.{name_on}
 use Rattle.replay.specs.Traced.{word_of}
@@ -28,15 +26,13 @@ use Rattle.answers.specs.declared.twin.Twin.TheVariants.{Ambiguous, Clear, Undec
 use Rattle.diagnose_cli.specs.declared.command.Command.TheVariants.{One}
 use Rattle.diagnose_cli.specs.declared.command.Single.TheVariants.{Twin}
 use Rattle.endings.specs.declared.ending.Kind.{Kind}
-use Rattle.endings.specs.declared.stop.FaultyText.{FaultyText}
-use Rattle.endings.specs.declared.stop.Stop.TheVariants.{NoFault, Large}
-use Rattle.diagnose_cli.specs.Due.{MayReply, Closes, above_limit, stop_by}
-use Rattle.endings.specs.Files.{IsReadAs}
-use Rattle.diagnose_cli.specs.Rows.{AreTold}
-use Rattle.endings.specs.Transcripts.{Ending, Transcript, IsOne, once}
+use Rattle.endings.specs.declared.stop.Stop.TheVariants.{NoFault}
+use Rattle.endings.specs.Transcripts.{Ending, IsOne}
+use Rattle.diagnose_cli.specs.Due.{Closes, EndsBySize, above_limit, stop_by}
+use Rattle.diagnose_cli.specs.FilesRead.{IsModelRead}
+use Rattle.diagnose_cli.specs.Rows.{Leaves}
 use Rattle.diagnose_cli.specs.TwinReplies.{LeavesOfWord, SaysOfWord, SaysTwin, TwinRunsReadBack}
-use Rattle.diagnose_cli.proofs.Left.{told_bytes}
-use Rattle.diagnose_cli.proofs.Limits.{within_limit, past_limit}
+use Rattle.diagnose_cli.proofs.ReadOver.{over_model}
 use Rattle.diagnose_cli.proofs.RunLengths.{pieces_length}
 
 -- ---- its runs
@@ -71,52 +67,34 @@ twin_reads_back net fault n d budget book Undecided network drafted few tested =
 
 -- ---- how it ends
 
-module _ (n d budget : ℕ) (words : List (List ℕ)) (book : List BookEntry) (text : List ℕ) (net : Net) (network : net ≡ network_of text) (word : List ℕ) (second : word ≡ word_at words 2) where
-  abbrev says : Transcript → Type 0
-  says = IsOne (MayReply (Twin n d budget) words book (text ∷ []))
+pub none_of : (o : Option ℕ) → ((n : ℕ) → o ≡ Some n → ⊥) → o ≡ None
+none_of None never = refl
+none_of (Some n) never = absurd (never n refl)
 
-  same_fault : fault_event_of (network_of text) (word_at words 2) ≡ fault_event_of net word
-  same_fault = ap (λ (m : Net). fault_event_of m (word_at words 2)) (sym network) ∙ ap (fault_event_of net) (sym second)
-
-  same_size : twin_size (network_of text) n d ≡ twin_size net n d
-  same_size = ap (λ (m : Net). twin_size m n d) (sym network)
-
+module _ (n d budget : ℕ) (words : List (List ℕ)) (book : List BookEntry) where
   -- by the fault event and by the size
-  closes : (o p : Option ℕ) (e : Ending) → fault_event_of net word ≡ o → above_limit (twin_size net n d) ≡ p → MatchOption (stop_by (is_none o) p) (IsOkAnd e says) (λ stop. e ≡ Err stop) → Closes (One (Twin n d budget)) words book (text ∷ []) e
-  closes o p e is_o is_p h =
-      let by_size = subst (λ (q : Option ℕ). MatchOption (stop_by (is_none o) q) (IsOkAnd e says) (λ stop. e ≡ Err stop)) (sym (ap above_limit same_size ∙ is_p)) h in
-      subst (λ (q : Option ℕ). MatchOption (stop_by (is_none q) (above_limit (twin_size (network_of text) n d))) (IsOkAnd e says) (λ stop. e ≡ Err stop)) (sym (same_fault ∙ is_o)) by_size
+  abbrev Ends : Net → Ending → Type 0
+  Ends net e = MatchOption (stop_by (is_none (fault_event_of net (word_at words 2))) (above_limit (twin_size net n d))) (IsOkAnd e (IsOne (SaysOfWord net (word_at words 2) n d budget book))) (λ stop. e ≡ Err stop)
 
-  pub lacks : fault_event_of net word ≡ None → Closes (One (Twin n d budget)) words book (text ∷ []) (Err NoFault)
-  lacks is = closes None (above_limit (twin_size net n d)) (Err NoFault) is refl refl
+  over_text : (texts : List (List ℕ)) (net : Net) (e : Ending) → IsModelRead texts net → Ends net e → Closes (One (Twin n d budget)) words book texts e
+  over_text texts net e read h = over_model (λ ts. Closes (One (Twin n d budget)) words book ts e) texts (λ m. Ends m e) (λ text well ends. ends) net read h
 
-  module _ (fault : ℕ) (named : fault_event_of net word ≡ Some fault) (size : ℕ) (sized : size ≡ twin_size net n d) where
-    pub large : MOST_SIZE < size → Closes (One (Twin n d budget)) words book (text ∷ []) (Err (Large size))
-    large above = closes (Some fault) (Some size) (Err (Large size)) named (ap above_limit (sym sized) ∙ past_limit size above) refl
+  pub lacks : (texts : List (List ℕ)) (net : Net) → IsModelRead texts net → None ≡ fault_event_of net (word_at words 2) → Closes (One (Twin n d budget)) words book texts (Err NoFault)
+  lacks texts net read is =
+      let e : Ending = Err NoFault in
+      over_text texts net e read (subst (λ (o : Option ℕ). MatchOption (stop_by (is_none o) (above_limit (twin_size net n d))) (IsOkAnd e (IsOne (SaysOfWord net (word_at words 2) n d budget book))) (λ stop. e ≡ Err stop)) is refl)
 
-    pub tested : (reply : Kind × List ℕ) → size ≤ MOST_SIZE → SaysTwin net fault n d budget book reply → Closes (One (Twin n d budget)) words book (text ∷ []) (once (Ok reply))
-    tested reply small tells =
-        let of_word : SaysOfWord net word n d budget book reply = subst (λ (o : Option ℕ). IsSomeAnd o (λ f. SaysTwin net f n d budget book reply)) (sym named) tells in
-        let of_text : SaysOfWord (network_of text) (word_at words 2) n d budget book reply =
-        subst (λ (m : Net). SaysOfWord m (word_at words 2) n d budget book reply) network (subst (λ (w : List ℕ). SaysOfWord net w n d budget book reply) second of_word) in
-        closes (Some fault) None (once (Ok reply)) named (within_limit (twin_size net n d) (subst (λ (k : ℕ). k ≤ MOST_SIZE) sized small)) (record { reply = reply; says = of_text; alone = refl; ends = refl })
+  module _ (texts : List (List ℕ)) (net : Net) (read : IsModelRead texts net) (fault : ℕ) (named : Some fault ≡ fault_event_of net (word_at words 2)) where
+    -- with a fault event, by the size alone
+    pub ends_about : (e : Ending) → EndsBySize (twin_size net n d) (IsOne (SaysOfWord net (word_at words 2) n d budget book)) e → Closes (One (Twin n d budget)) words book texts e
+    ends_about e h =
+        over_text texts net e read
+        (subst (λ (o : Option ℕ). MatchOption (stop_by (is_none o) (above_limit (twin_size net n d))) (IsOkAnd e (IsOne (SaysOfWord net (word_at words 2) n d budget book))) (λ stop. e ≡ Err stop)) named h)
 
--- ---- what it leaves
+    pub of_word : (reply : Kind × List ℕ) → SaysTwin net fault n d budget book reply → SaysOfWord net (word_at words 2) n d budget book reply
+    of_word reply says = subst (λ (o : Option ℕ). IsSomeAnd o (λ f. SaysTwin net f n d budget book reply)) named says
 
--- the book stays empty, whatever the word names
-pub none_left : (net : Net) (word : List ℕ) (n d budget : ℕ) (book : List BookEntry) → book ≡ [] → LeavesOfWord net word n d budget book
-none_left net word n d budget book empty = by (fault_event_of net word)
-  where
-    by : (o : Option ℕ) → MatchOption o (book ≡ []) (λ fault. LeavesTwins net fault n d budget book)
-    by None = empty
-    by (Some fault) = inl empty
-
-pub fault_left : (net : Net) (word : List ℕ) (fault n d budget : ℕ) (book : List BookEntry) → fault_event_of net word ≡ Some fault → LeavesTwins net fault n d budget book → LeavesOfWord net word n d budget book
-fault_left net word fault n d budget book named left = subst (λ (o : Option ℕ). MatchOption o (book ≡ []) (λ f. LeavesTwins net f n d budget book)) (sym named) left
-
--- over the text that is told
-pub word_left : (held : List ℕ → Option (List ℕ)) (words : List (List ℕ)) (limit : ℕ) (fault : List ℕ → Option FaultyText) (net : Net) (read : IsReadAs held (word_at words 1) limit fault (λ text. net ≡ network_of text)) (text : List ℕ)
-    → AreTold held words 1 (text ∷ []) → (word : List ℕ) → word ≡ word_at words 2 → (n d budget : ℕ) (book : List BookEntry) → LeavesOfWord net word n d budget book → LeavesOfWord (network_of text) (word_at words 2) n d budget book
-word_left held words limit fault net (bytes, read, is) text told word second n d budget book left =
-    let same : net ≡ network_of text = is ∙ ap network_of (sym (told_bytes (held (word_at words 1)) bytes text told.0 read.holds.told)) in
-    subst (λ (m : Net). LeavesOfWord m (word_at words 2) n d budget book) same (subst (λ (w : List ℕ). LeavesOfWord net w n d budget book) second left)
+    pub fault_left : LeavesTwins net fault n d budget book → Leaves (One (Twin n d budget)) words texts book
+    fault_left left =
+        over_model (λ ts. Leaves (One (Twin n d budget)) words ts book) texts (λ m. LeavesOfWord m (word_at words 2) n d budget book) (λ text well h. h) net read
+        (subst (λ (o : Option ℕ). MatchOption o (book ≡ []) (λ f. LeavesTwins net f n d budget book)) named left)

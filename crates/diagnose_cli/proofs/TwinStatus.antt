@@ -17,13 +17,12 @@ use Rattle.diagnose_cli.specs.declared.command.Command.TheVariants.{One}
 use Rattle.diagnose_cli.specs.declared.command.Single.TheVariants.{Twin}
 use Rattle.endings.specs.declared.ending.Kind.{Kind}
 use Rattle.endings.specs.Endings.{status_of_kind}
-use Rattle.diagnose_cli.specs.Due.{MayReply}
 use Rattle.diagnose_cli.specs.Outcomes.{Outcome, ShowsReply}
-use Rattle.diagnose_cli.specs.Rows.{AreTold, CallsWith}
+use Rattle.diagnose_cli.specs.Rows.{CallsWith}
 use Rattle.diagnose_cli.specs.Run.{Ends}
 use Rattle.diagnose_cli.specs.TwinReplies.{SaysTwin, SaysOfWord, kind_of_twin}
 use Rattle.diagnose_cli.specs.TwinRows.{AsksTwins, TellsTwins, TellsNoTwins, TellsUntested}
-use Rattle.diagnose_cli.proofs.Answered.{AreHeld, IsStopStatus, above, between, said_over, same_text}
+use Rattle.diagnose_cli.proofs.Answered.{IsStopStatus, above, between, reply_over}
 use Rattle.diagnose_cli.proofs.TwinBooks.{all_clauses, book_asks, closed_book, fresh_book, undecided_is_small}
 
 -- ---- what is told of a twin question
@@ -61,17 +60,9 @@ of_reply o net n d budget tells =
     }
 
 -- over the text that is told
-over_text : (o : Outcome) (n d budget : ℕ) (text : List ℕ) (texts : List (List ℕ)) → AreTold o.loads.held o.words 1 (text ∷ []) → AreHeld o.loads.held o.words 1 texts
-    → ShowsReply o (MayReply (Twin n d budget) o.words o.book texts) → ShowsReply o (SaysOfWord (network_of text) (word_at o.words 2) n d budget o.book)
-over_text o n d budget text [] there held tells = absurd tells.says
-over_text o n d budget text (model ∷ []) there held tells =
-    subst (λ (m : List ℕ). ShowsReply o (SaysOfWord (network_of m) (word_at o.words 2) n d budget o.book)) (sym (same_text (o.loads.held (word_at o.words 1)) text model there.0 held.0)) tells
-over_text o n d budget text (model ∷ other ∷ texts) there held tells = absurd tells.says
-
 told : (o : Outcome) (n d budget : ℕ) (text : List ℕ) → Ends o → CallsWith o (One (Twin n d budget)) (text ∷ []) → (IsStopStatus o.status → ⊥) → TellsTested o (network_of text) n d budget
 told o n d budget text ends asks answers =
-    let over = said_over o (Twin n d budget) ends asks.command answers in
-    of_reply o (network_of text) n d budget (over_text o n d budget text over.texts asks.told over.held over.tells)
+    of_reply o (network_of text) n d budget (reply_over o (Twin n d budget) (text ∷ []) ends asks refl answers)
 
 -- ---- by the status
 

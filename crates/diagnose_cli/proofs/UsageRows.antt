@@ -2,15 +2,13 @@
 use Rattle.std.proofs.Common.{◌≡◌, inl, inr, ℕ, ◌+◌, List, [], ◌∷◌, ◌++◌, Bool, true, false, Option, Some, None, Ok, Err, IsOkAnd, MatchOption, refl, subst, arith}
 use Rattle.proof_ledger.specs.Book.{BookEntry}
 use Rattle.diagnose_cli.specs.declared.command.Command.{Command}
-use Rattle.endings.specs.declared.ending.Kind.{Kind}
-use Rattle.endings.specs.declared.ending.Kind.TheVariants.{Done, Rejected, Absent, Undecided, Many, Nothing, Ambiguous}
 use Rattle.endings.specs.declared.stop.Stop.TheVariants.{Usage, Load, Faulty, Long, NoFault, Large, Memory}
 use Rattle.endings.specs.declared.stop.FaultyText.{FaultyText}
-use Rattle.endings.specs.declared.stop.FaultyText.TheVariants.{Model, Log, Run, Cnf, Lrat, Cost}
 use Rattle.endings.specs.Transcripts.{End, said, cut, broken, Ending, Transcript, UnlessMemory}
 use Rattle.endings.specs.Files.{Loads}
-use Rattle.endings.specs.Endings.{HasStatus, status_of_end, status_of_kind, status_of_faulty}
+use Rattle.endings.specs.Endings.{HasStatus, status_of_end}
 use Rattle.endings.specs.Texts.{FileKind, fault_of_text}
+use Rattle.diagnose_cli.proofs.Answered.{IsStopStatus, faulty_high, low_stop, no_stop_kind}
 use Rattle.diagnose_cli.specs.Commands.{files_of, command_of}
 use Rattle.diagnose_cli.specs.Due.{Says, lacks_fault, stop_by, too_large, Closes, InOrder, MayAnswer, Due}
 use Rattle.diagnose_cli.specs.Outcomes.{Outcome}
@@ -41,25 +39,8 @@ no_command : (l : Loads) (words : List (List ℕ)) (book : List BookEntry) (o : 
 no_command l words book None h = refl
 no_command l words book (Some c) h = absurd (not_in_order l words 1 (files_of c) [] (Closes c words book) (λ texts. never_closes (lacks_fault c words texts) (too_large c texts) (Says c words book texts)) h)
 
-not_kind : (k : Kind) → 2 ≡ status_of_kind k → ⊥
-not_kind Done p = cc
-not_kind Rejected p = cc
-not_kind Absent p = cc
-not_kind Undecided p = cc
-not_kind Many p = cc
-not_kind Nothing p = cc
-not_kind Ambiguous p = cc
-
-not_faulty : (text : FaultyText) → 2 ≡ status_of_faulty text → ⊥
-not_faulty (Model fault) p = cc
-not_faulty (Log fault) p = cc
-not_faulty (Run fault) p = cc
-not_faulty (Cnf fault) p = cc
-not_faulty (Lrat fault) p = cc
-not_faulty (Cost fault) p = cc
-
 not_end : (end : End) → 2 ≡ status_of_end end → ⊥
-not_end (said kind) p = not_kind kind p
+not_end (said kind) p = no_stop_kind kind (subst IsStopStatus p (low_stop 2 (omega arith) (omega arith)))
 not_end cut p = cc
 not_end broken p = cc
 
@@ -67,7 +48,7 @@ of_ending : (o : Outcome) (e : Ending) → UnlessMemory e (Due o.loads o.words o
 of_ending o (Ok told) d p = absurd (not_end told.end p)
 of_ending o (Err Usage) d p = no_command o.loads o.words o.book (command_of o.words) (d (λ m. cc))
 of_ending o (Err (Load i)) d p = absurd (omega arith)
-of_ending o (Err (Faulty text)) d p = absurd (not_faulty text p)
+of_ending o (Err (Faulty text)) d p = let high = faulty_high text in absurd (omega (arith, high, p))
 of_ending o (Err (Long i)) d p = absurd (omega arith)
 of_ending o (Err NoFault) d p = absurd (omega arith)
 of_ending o (Err (Large size)) d p = absurd (omega arith)

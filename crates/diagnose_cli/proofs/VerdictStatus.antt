@@ -1,7 +1,6 @@
 -- What the whole run of `verdicts` tells, and what its status does.
-use Rattle.std.proofs.Common.{◌≡◌, ◌∙◌, inl, inr, ℕ, Bool, true, false, List, [], ◌∷◌, Ok, Err, refl, sym, ap, subst, arith}
+use Rattle.std.proofs.Common.{◌≡◌, ◌∙◌, inl, inr, ℕ, Bool, true, false, List, [], ◌∷◌, Ok, Err, refl, sym, ap, arith}
 use Rattle.std.specs.List.{list_any}
-use Rattle.des_base.specs.CommandWords.{word_at}
 use Rattle.des_base.specs.Outside.{Took}
 use Rattle.des_net.specs.Network.{Net}
 use Rattle.answers.specs.declared.verdict.Verdict.{Verdict}
@@ -19,15 +18,14 @@ use Rattle.verdict_telling.specs.Replied.{is_undecided}
 use Rattle.verdict_telling.specs.Whole.{told_of}
 use Rattle.verdict_telling.specs.declared.whole.Told.TheVariants.{Judged}
 use Rattle.diagnose_cli.specs.declared.command.Command.TheVariants.{Verdicts}
-use Rattle.diagnose_cli.specs.Due.{Says}
 use Rattle.endings.specs.Endings.{HasStatus, status_of_end, status_of_kind, ending_texts}
 use Rattle.diagnose_cli.specs.Outcomes.{Outcome, IsPut, IsUnbroken}
-use Rattle.diagnose_cli.specs.Rows.{AreTold, CallsWith, ReadsFiles}
+use Rattle.diagnose_cli.specs.Rows.{CallsWith, ReadsFiles}
 use Rattle.diagnose_cli.specs.Run.{Ends}
-use Rattle.endings.specs.Transcripts.{End, Ending, Transcript, said, cut, broken}
-use Rattle.diagnose_cli.specs.VerdictReplies.{EndsVerdicts, IsVerdicts, MayTell, kind_of_told}
+use Rattle.endings.specs.Transcripts.{End, Ending, said, cut, broken}
+use Rattle.diagnose_cli.specs.VerdictReplies.{EndsVerdicts, MayTell, kind_of_told}
 use Rattle.diagnose_cli.specs.VerdictRows.{IsAnswerStatus, TellsInAll}
-use Rattle.diagnose_cli.proofs.Answered.{AreHeld, IsStopStatus, said_in_all, same_text, told_over}
+use Rattle.diagnose_cli.proofs.Answered.{IsStopStatus, said_in_all, says_over, told_over}
 
 -- ---- all that is told
 
@@ -54,16 +52,6 @@ no_stop status (inr some) stop = elim stop.among [ inl a ↦ omega (arith, a, so
 pub is_put : (status : ℕ) → IsAnswerStatus status → IsPut status
 is_put status (inl none) = record { written = λ four. omega (arith, none, four); memory = λ nine. omega (arith, none, nine) }
 is_put status (inr some) = record { written = λ four. omega (arith, four, some.0); memory = λ nine. omega (arith, nine, some.0) }
-
--- over the two texts that are told
-over_texts : (o : Outcome) (steps budget : ℕ) (text alarms : List ℕ) (texts : List (List ℕ)) (t : Transcript) → AreTold o.loads.held o.words 1 (text ∷ alarms ∷ []) → AreHeld o.loads.held o.words 1 texts → Says (Verdicts steps budget) o.words o.book texts t
-    → IsVerdicts (network_of text) (log_of alarms) steps budget o.book t
-over_texts o steps budget text alarms [] t there held says = absurd says
-over_texts o steps budget text alarms (model ∷ []) t there held says = absurd says
-over_texts o steps budget text alarms (model ∷ rows ∷ []) t there held says =
-    let of_model = subst (λ (m : List ℕ). IsVerdicts (network_of m) (log_of rows) steps budget o.book t) (sym (same_text (o.loads.held (word_at o.words 1)) text model there.0 held.0)) says in
-    subst (λ (a : List ℕ). IsVerdicts (network_of text) (log_of a) steps budget o.book t) (sym (same_text (o.loads.held (word_at o.words 2)) alarms rows there.1.0 held.1.0)) of_model
-over_texts o steps budget text alarms (model ∷ rows ∷ other ∷ texts) t there held says = absurd says
 
 -- an event that is left open or not has another status
 not_ten : (b : Bool) → 10 ≡ status_of_kind (kind_of_told (Judged b)) → ⊥
@@ -101,7 +89,7 @@ module _ (o : Outcome) (ends : Ends o) (steps budget : ℕ) (text alarms : List 
   pub verdicts_told : IsAnswerStatus o.status → TellsInAll o (network_of text) (log_of alarms) steps budget
   verdicts_told answer =
       let over = told_over o (Verdicts steps budget) ends asks.command (no_stop o.status answer) in
-      ended o (network_of text) (log_of alarms) steps budget over.told.texts over.told.end (is_put o.status answer) (over_texts o steps budget text alarms over.texts over.told asks.told over.held over.says) over.shown over.put
+      ended o (network_of text) (log_of alarms) steps budget over.told.texts over.told.end (is_put o.status answer) (says_over o (Verdicts steps budget) (text ∷ alarms ∷ []) asks refl over) over.shown over.put
 
   pub none_explains : o.status ≡ 10 → IsAbsent (network_of text) (log_of alarms) steps
   none_explains is =

@@ -1,5 +1,5 @@
 -- The commands, the words that call each one, and the files that it needs.
-use Rattle.std.specs.Prelude.{ℕ, ◌≤◌, ⊤, List, [], ◌∷◌, length, codes, Bool, true, ◌&&◌, nat_eq, Option, Some, None, if◌then◌else◌, bytes_eq, option_map, option_and_then}
+use Rattle.std.specs.Prelude.{ℕ, ◌+◌, ◌≤◌, ⊤, List, [], ◌∷◌, length, codes, Bool, true, ◌&&◌, nat_eq, Option, Some, None, if◌then◌else◌, bytes_eq, option_map, option_and_then}
 use Rattle.des_base.specs.CommandWords.{word_at}
 use Rattle.des_base.specs.Numbers.{number_up_to}
 use Rattle.gen_plant.specs.Plant.{most_units}
@@ -95,11 +95,15 @@ files_of (One (Cheapest steps budget)) = model ∷ log ∷ costs ∷ []
 files_of (Session steps budget) = model ∷ script ∷ []
 files_of (Verdicts steps budget) = model ∷ log ∷ []
 
--- how many words behind the first a command looks at when it is carried out: those of its files, of `twin` that of the event too, and of a question all
+-- how many words it looks at behind those of its files: `twin` at that of the event, and a question at the others
+abbrev pub more_words : Command → ℕ
+more_words (One (Ask steps)) = 2
+more_words (One (Twin steps after budget)) = 1
+more_words c = 0
+
+-- how many words behind the first a command looks at when it is carried out
 abbrev pub read_words : Command → ℕ
-read_words (One (Ask steps)) = 4
-read_words (One (Twin steps after budget)) = 2
-read_words c = length (files_of c)
+read_words c = length (files_of c) + more_words c
 
 -- how many files a command names
 abbrev pub file_count : Command → ℕ

@@ -1,5 +1,5 @@
 -- What may come for the words of a command line: a stop by the first cause in order, what the command says, or out of memory.
-use Rattle.std.specs.Prelude.{◌≡◌, ℕ, ◌+◌, List, [], ◌∷◌, ◌++◌, length, drop, Bool, false, cond, nat_lt, is_none, option_map, Option, Some, None, if◌then◌else◌, Err, IfErr, IsOkAnd, MatchOption}
+use Rattle.std.specs.Prelude.{◌≡◌, ℕ, ◌+◌, List, [], ◌∷◌, ◌++◌, Bool, false, cond, nat_lt, is_none, option_map, Option, Some, None, if◌then◌else◌, Err, IfErr, IsOkAnd, MatchOption}
 use Rattle.des_base.specs.CommandWords.{word_at}
 use Rattle.cost_least.specs.Costs.{cost_size}
 use Rattle.event_costs.specs.CostText.{cost_of, fault_event_of}
@@ -79,6 +79,10 @@ stop_by lacks size = if lacks then Some NoFault else option_map (λ n. Large n) 
 abbrev pub halts : Command → List (List ℕ) → List (List ℕ) → Option Stop
 halts c words files = stop_by (lacks_fault c words files) (too_large c files)
 
+-- the end of a question of this size: it is above the limit, or this is said
+abbrev pub EndsBySize : ℕ → (Transcript → Type 0) → Ending → Type 0
+EndsBySize size says e = MatchOption (option_map (λ n. Large n) (above_limit size)) (IsOkAnd e says) (λ stop. e ≡ Err stop)
+
 -- after its files a command stops so, or says what it may
 abbrev pub Closes : Command → List (List ℕ) → List BookEntry → List (List ℕ) → Ending → Type 0
 Closes c words book files e = MatchOption (halts c words files) (IsOkAnd e (Says c words book files)) (λ stop. e ≡ Err stop)
@@ -93,10 +97,6 @@ InOrder l words i (kind ∷ kinds) files closes e =
 -- what may be answered to a command with this book left: its files in order, which stand from word 1 on, and then the end
 abbrev pub MayAnswer : Loads → List (List ℕ) → Command → List BookEntry → Ending → Type 0
 MayAnswer l words c book = InOrder l words 1 (files_of c) [] (Closes c words book)
-
--- the same where the first of the files are read, and these are their bytes
-abbrev pub AnswersAfter : Loads → List (List ℕ) → Command → List BookEntry → List (List ℕ) → Ending → Type 0
-AnswersAfter l words c book files = InOrder l words (length files + 1) (drop (length files) (files_of c)) files (Closes c words book)
 
 -- what may be answered to a command that the words spell: if they don't call it, that they call none
 abbrev pub AnswersSpelled : Loads → List (List ℕ) → Command → List BookEntry → Ending → Type 0

@@ -1,4 +1,4 @@
-pub mod FirstTwo
+pub mod FilesRead
 pub mod ProofText
 pub mod Words
 pub mod Questions
@@ -14,7 +14,6 @@ pub mod Outcomes
 pub mod Exact
 pub mod Sessions
 pub mod Rows
-pub mod Asking
 pub mod TwinRows
 pub mod VerdictRows
 pub mod CheapRows

@@ -1,20 +1,21 @@
 // A question about a model and a log: its name, its files, its size, what is asked of it, and the reply.
-ghost use Rattle.std.specs.Prelude.{◌≡◌, ◌≢◌, ◌<◌, ◌≤◌, ℕ, List, [], ◌∷◌, false, length, option_map, IfErr, IfOk};
+ghost use Rattle.std.specs.Prelude.{◌≡◌, ◌≢◌, ◌<◌, ◌≤◌, ℕ, List, [], false, length, option_map, IfErr, IfOk, refl};
 ghost use Rattle.des_base.specs.CommandWords.{word_at};
 ghost use Rattle.des_base.specs.declared.TheConstants.{MOST_STEPS};
-ghost use Rattle.diagnose_cli.specs.Asking.{ClosesRequest, IsAnswerDue};
-ghost use Rattle.diagnose_cli.specs.Questions.{AnswersTo, NamedQuestion, Requests, is_request, named_questions, request_among, request_by, request_of};
-ghost use Rattle.endings.specs.Files.{loads};
+ghost use Rattle.diagnose_cli.specs.declared.command.Single.TheVariants.{Ask as AskCalled};
+ghost use Rattle.diagnose_cli.specs.Due.{AnswersSpelled};
+ghost use Rattle.diagnose_cli.specs.Rows.{AreTold, Leaves};
 ghost use Rattle.endings.specs.Transcripts.{UnlessMemory, once};
+ghost use Rattle.diagnose_cli.specs.Questions.{AnswersTo, AreWordsOf, NamedQuestion, is_request, named_questions, request_among, request_by, request_of};
+ghost use Rattle.endings.specs.Files.{loads};
 ghost use Rattle.des_net.specs.Network.{Net};
 ghost use Rattle.inquiries.specs.Begun.{HasQuestion, LeavesQuestion, MayLearn};
 ghost use Rattle.least_faults.specs.Parts.{IsWithinLimits};
-ghost use Rattle.log_csv.specs.LogText.{log_of};
 ghost use Rattle.log_order.specs.Log.{Log};
-ghost use Rattle.model_text.specs.ModelFaults.{network_of};
 ghost use Rattle.proof_ledger.specs.Book.{BookEntry};
 
-use crate::files::fetch_case;
+use crate::answering::{Answering, answer_over};
+use crate::command::{Command, Single};
 use des_base::{Memory, Shelf, WordList};
 use endings::{Reply, Stop};
 use inquiries::{Case, FormulaWithin, Inquiry, LeastFaults, Refutation, pose};
@@ -65,7 +66,8 @@ pub fn ask_named<F: Shelf>(
     requires words { 4 < length words.now }
     requires steps { steps ≤ MOST_STEPS }
     requires empty { book.old.entries ≡ [] }
-    ensures asked { IsAnswerDue (loads F.held F.faults shelf.old shelf.new) words.now steps (request_of words.now) book.new.entries result }
+    ensures due { UnlessMemory result (AnswersSpelled (loads F.held F.faults shelf.old shelf.new) words.now (Command.One (Single.Ask steps)) book.new.entries (once result)) }
+    ensures left { (texts : List (List ℕ)) → AreTold (F.held shelf.old) words.now 1 texts → Leaves (Command.One (Single.Ask steps)) words.now texts book.new.entries }
     ensures stopped { IfErr result (λ stop. stop ≢ Stop.Memory → book.new ≡ book.old) }
     ensures unasked_shelf { is_request (request_of words.now) ≡ false → shelf.new ≡ shelf.old }
     ensures unasked_book { is_request (request_of words.now) ≡ false → book.new ≡ book.old }
@@ -90,57 +92,50 @@ fn ask_as<Q: Replying + Drop, F: Shelf>(
     requires name { word_at words.now 0 ≡ Q.question.name }
     requires steps { steps ≤ MOST_STEPS }
     requires empty { book.old.entries ≡ [] }
-    ensures asked { IsAnswerDue (loads F.held F.faults shelf.old shelf.new) words.now steps (request_of words.now) book.new.entries result }
+    ensures due { UnlessMemory result (AnswersSpelled (loads F.held F.faults shelf.old shelf.new) words.now (Command.One (Single.Ask steps)) book.new.entries (once result)) }
+    ensures left { (texts : List (List ℕ)) → AreTold (F.held shelf.old) words.now 1 texts → Leaves (Command.One (Single.Ask steps)) words.now texts book.new.entries }
     ensures stopped { IfErr result (λ stop. stop ≢ Stop.Memory → book.new ≡ book.old) }
     ensures unasked_shelf { is_request (request_of words.now) ≡ false → shelf.new ≡ shelf.old }
     ensures unasked_book { is_request (request_of words.now) ≡ false → book.new ≡ book.old }
 {
     match Q::read(words.word(4)) {
-        Some(inquiry) => ask_question(alloc, words, shelf, steps, &inquiry, book),
+        Some(inquiry) => {
+            let question = Question { steps, inquiry };
+            answer_over(alloc, words, shelf, Single::Ask { steps }, &question, book)
+        }
         None => Err(Stop::Usage),
     }
 }
 
-// The reply by an inquiry about the files of the command.
-fn ask_question<Q: Replying, F: Shelf>(
-    alloc: Global,
-    words: &WordList,
-    shelf: &mut F,
+// A question by an inquiry, within this many parallel steps.
+#[derive(Drop)]
+struct Question<Q> {
     steps: u32,
-    inquiry: &Q,
-    book: &mut Ledger,
-) -> Result<Reply, Stop>
-    requires words { 2 < length words.now }
-    requires steps { steps ≤ MOST_STEPS }
-    requires empty { book.old.entries ≡ [] }
-    ensures asked { IsAnswerDue (loads F.held F.faults shelf.old shelf.new) words.now steps (Requests Q.question (Q.word inquiry.now)) book.new.entries result }
-    ensures stopped { IfErr result (λ stop. stop ≢ Stop.Memory → book.new ≡ book.old) }
-{
-    let case = fetch_case(alloc, words, shelf)?;
-    let answer = ask(alloc, &case, steps, inquiry, book);
-    drop(case);
-    answer
+    inquiry: Q,
 }
 
-// The same where both files are read.
-fn ask<Q: Replying>(
-    alloc: Global,
-    case: &Case,
-    steps: u32,
-    inquiry: &Q,
-    book: &mut Ledger,
-) -> Result<Reply, Stop>
-    requires steps { steps ≤ MOST_STEPS }
-    requires empty { book.old.entries ≡ [] }
-    ensures due { (text alarms : List ℕ) → case.now.net ≡ network_of text → case.now.log ≡ log_of alarms → UnlessMemory result (ClosesRequest (Requests Q.question (Q.word inquiry.now)) steps book.new.entries (text ∷ alarms ∷ []) (once result)) }
-    ensures stopped { IfErr result (λ stop. stop ≢ Stop.Memory → book.new ≡ book.old) }
-    ensures left { LeavesQuestion case.now.net case.now.log steps (MayLearn (Q.question.budget (Q.word inquiry.now))) book.new.entries }
-{
-    let size = question_size(&case.net, &case.log, steps);
-    if size > MOST_SIZE {
-        return Err(Stop::Large(size));
+impl<Q: Replying> Answering for Question<Q> {
+    type Files = Case;
+
+    ghost command = { λ s. AskCalled s.steps };
+
+    ghost asks = { λ s words. AreWordsOf Q.question (Q.word s.inquiry) words };
+
+    fn answer(
+        &self,
+        alloc: Global,
+        _words: &WordList,
+        files: &Case,
+        book: &mut Ledger,
+    ) -> Result<Reply, Stop> {
+        let size = question_size(&files.net, &files.log, self.steps);
+        if size > MOST_SIZE {
+            return Err(Stop::Large(size));
+        }
+        Ok(ask_by(alloc, files, self.steps, &self.inquiry, book)?)
     }
-    Ok(ask_by(alloc, case, steps, inquiry, book)?)
+
+    ghost has_files = { λ s. refl };
 }
 
 /// The reply by an inquiry about a question that is not too large.

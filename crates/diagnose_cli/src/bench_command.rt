@@ -1,18 +1,19 @@
 // The command `bench`: what is found of a generated plant, summed up.
-ghost use Rattle.std.specs.Prelude.{◌≡◌, ◌≢◌, ◌≤◌, ◌==◌, ◌++◌, ℕ, List, [], IfErr, IfOk, codes, length};
+ghost use Rattle.std.specs.Prelude.{◌≡◌, ◌≢◌, ◌≤◌, ◌==◌, ◌++◌, List, [], IfErr, IfOk, codes, length, refl};
 ghost use Rattle.std.specs.List.{position_or_len};
-ghost use Rattle.gen_plant.specs.Plant.{most_units, plant_net, plant_log};
-ghost use Rattle.telling.specs.Lines.{line_with_number};
 ghost use Rattle.des_base.specs.declared.TheConstants.{MOST_STEPS};
-ghost use Rattle.endings.specs.Files.{Loads};
-ghost use Rattle.endings.specs.Transcripts.{UnlessMemory, once};
-ghost use Rattle.diagnose_cli.specs.Replies.{first_line};
-ghost use Rattle.diagnose_cli.specs.Due.{MayAnswer, Closes};
+ghost use Rattle.diagnose_cli.specs.declared.command.Single.TheVariants.{Bench as BenchCalled};
+ghost use Rattle.diagnose_cli.specs.Due.{EndsBySize};
+ghost use Rattle.diagnose_cli.specs.Replies.{SaysSummary, first_line};
+ghost use Rattle.endings.specs.Transcripts.{IsOne, UnlessMemory, once};
 ghost use Rattle.inquiries.specs.Begun.{HasAskedWithin, LeavesQuestion};
+ghost use Rattle.replay.specs.QuestionSize.{question_size};
+ghost use Rattle.telling.specs.Lines.{line_with_number};
 
+use crate::answering::Answering;
 use crate::asking::ask_by;
-use crate::command::{Command, Limits, Single};
-use des_base::Memory;
+use crate::command::Limits;
+use des_base::{Memory, WordList};
 use endings::{Reply, Stop};
 use gen_plant::generate;
 use inquiries::{Case, LeastFaults};
@@ -22,31 +23,39 @@ use sizing::question_size;
 use std::alloc::Global;
 
 /// Finds the least number of faults of a generated plant within a number of parallel steps, and says how large the question is.
-pub fn bench_command(
-    alloc: Global,
-    units: u32,
-    start: u64,
-    limits: Limits,
-    book: &mut Ledger,
-) -> Result<Reply, Stop>
-    requires units { units ≤ most_units }
-    requires steps { limits.steps ≤ MOST_STEPS }
-    requires empty { book.old.entries ≡ [] }
-    ensures due { (l : Loads) (words : List (List ℕ)) → UnlessMemory result (MayAnswer l words (Command.One (Single.Bench units start limits.steps limits.budget)) book.new.entries (once result)) }
-    ensures stopped { IfErr result (λ stop. stop ≢ Stop.Memory → book.new ≡ book.old) }
-    ensures left { LeavesQuestion (plant_net units) (plant_log units start) limits.steps (HasAskedWithin limits.budget) book.new.entries }
-{
-    let plant = generate(alloc, units, start)?;
-    let case = Case {
-        net: plant.net,
-        log: plant.log,
-    };
-    let answer = bench(alloc, units, &case, limits, book);
-    drop(case);
-    answer
+#[derive(Clone, Copy)]
+pub struct BenchCommand {
+    pub units: u32,
+    pub start: u64,
+    pub limits: Limits,
 }
 
-// The same where the plant is made.
+impl Answering for BenchCommand {
+    type Files = ();
+
+    ghost command = { λ s. BenchCalled s.units s.start s.limits.steps s.limits.budget };
+
+    fn answer(
+        &self,
+        alloc: Global,
+        _words: &WordList,
+        _files: &(),
+        book: &mut Ledger,
+    ) -> Result<Reply, Stop> {
+        let plant = generate(alloc, self.units, self.start)?;
+        let case = Case {
+            net: plant.net,
+            log: plant.log,
+        };
+        let answer = bench(alloc, self.units, &case, self.limits, book);
+        drop(case);
+        answer
+    }
+
+    ghost has_files = { λ s. refl };
+}
+
+// What is found of a plant.
 fn bench(
     alloc: Global,
     units: u32,
@@ -56,7 +65,7 @@ fn bench(
 ) -> Result<Reply, Stop>
     requires steps { limits.steps ≤ MOST_STEPS }
     requires empty { book.old.entries ≡ [] }
-    ensures due { (words : List (List ℕ)) (start : ℕ) → case.now.net ≡ plant_net units → case.now.log ≡ plant_log units start → UnlessMemory result (Closes (Command.One (Single.Bench units start limits.steps limits.budget)) words book.new.entries [] (once result)) }
+    ensures ends { UnlessMemory result (EndsBySize (question_size case.now.net case.now.log limits.steps) (IsOne (SaysSummary units case.now.net case.now.log limits.steps limits.budget book.new.entries)) (once result)) }
     ensures stopped { IfErr result (λ stop. stop ≢ Stop.Memory → book.new ≡ book.old) }
     ensures left { LeavesQuestion case.now.net case.now.log limits.steps (HasAskedWithin limits.budget) book.new.entries }
 {

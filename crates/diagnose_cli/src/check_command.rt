@@ -1,49 +1,38 @@
 // The command `check`: whether a proof refutes a formula.
-ghost use Rattle.std.specs.Prelude.{◌≡◌, ◌<◌, ◌≤◌, ℕ, List, [], ◌∷◌, length, IfOk};
-ghost use Rattle.proof_ledger.specs.Book.{BookEntry};
-ghost use Rattle.proof_ledger.specs.Checking.{check_proof};
-ghost use Rattle.proof_text.specs.CnfText.{formula, formula_of};
-ghost use Rattle.endings.specs.Files.{loads};
-ghost use Rattle.endings.specs.Transcripts.{UnlessMemory, once};
+ghost use Rattle.std.specs.Prelude.{◌≡◌, IfOk, refl};
+ghost use Rattle.diagnose_cli.specs.declared.command.Single.TheVariants.{Check as CheckCalled};
 ghost use Rattle.diagnose_cli.specs.Replies.{kind_of_checked, reply_of_checked};
-ghost use Rattle.diagnose_cli.specs.Due.{MayAnswer, AnswersAfter};
+ghost use Rattle.proof_ledger.specs.Checking.{check_proof};
 
-use crate::command::{Command, Single};
-use des_base::{Memory, Shelf, WordList};
-use endings::{Kind, Reply, Stop, fetch_cnf, fetch_lrat};
-use proof_ledger::{Checked, check};
+use crate::answering::Answering;
+use crate::reading::CnfProof;
+use des_base::{Memory, WordList};
+use endings::{Kind, Reply, Stop};
+use proof_ledger::{Checked, Ledger, check};
 use proof_text::{Cnf, Proof};
 use report::print_checked;
 use std::alloc::Global;
 
 /// Says whether a proof refutes a formula.
-pub fn check_command<F: Shelf>(
-    alloc: Global,
-    words: &WordList,
-    shelf: &mut F,
-) -> Result<Reply, Stop>
-    requires { 2 < length words.now }
-    ensures { (book : List BookEntry) → UnlessMemory result (MayAnswer (loads F.held F.faults shelf.old shelf.new) words.now (Command.One Single.Check) book (once result)) }
-{
-    let cnf = fetch_cnf(alloc, words, shelf, 1)?;
-    let answer = check_over(alloc, words, shelf, &cnf);
-    drop(cnf);
-    answer
-}
+#[derive(Clone, Copy)]
+pub struct CheckCommand;
 
-// The same where the formula is read.
-fn check_over<F: Shelf>(
-    alloc: Global,
-    words: &WordList,
-    shelf: &mut F,
-    cnf: &Cnf,
-) -> Result<Reply, Stop>
-    requires words { 2 < length words.now }
-    requires few { cnf.now.vars ≤ 100000000 }
-    ensures { (book : List BookEntry) → (text : List ℕ) → formula cnf.now.vars cnf.now.clauses.clauses ≡ formula_of text → UnlessMemory result (AnswersAfter (loads F.held F.faults shelf.old shelf.new) words.now (Command.One Single.Check) book (text ∷ []) (once result)) }
-{
-    let proof = fetch_lrat(alloc, words, shelf, 2, cnf)?;
-    Ok(check_proof(alloc, cnf, &proof)?)
+impl Answering for CheckCommand {
+    type Files = CnfProof;
+
+    ghost command = { λ s. CheckCalled };
+
+    fn answer(
+        &self,
+        alloc: Global,
+        _words: &WordList,
+        files: &CnfProof,
+        _book: &mut Ledger,
+    ) -> Result<Reply, Stop> {
+        Ok(check_proof(alloc, &files.cnf, &files.proof)?)
+    }
+
+    ghost has_files = { λ s. refl };
 }
 
 // The reply to a proof.

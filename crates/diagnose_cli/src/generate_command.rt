@@ -1,41 +1,72 @@
 // The commands `generate model` and `generate log`: the texts of a generated plant.
-ghost use Rattle.std.specs.Prelude.{◌≡◌, ◌≤◌, ℕ, List, IfOk};
-ghost use Rattle.gen_plant.specs.Plant.{most_units};
-ghost use Rattle.proof_ledger.specs.Book.{BookEntry};
-ghost use Rattle.endings.specs.Files.{Loads};
-ghost use Rattle.endings.specs.Transcripts.{UnlessMemory, once};
+ghost use Rattle.std.specs.Prelude.{◌≡◌, IfOk, refl};
+ghost use Rattle.diagnose_cli.specs.declared.command.Single.TheVariants.{GenerateLog as GenerateLogCalled, GenerateModel as GenerateModelCalled};
 ghost use Rattle.diagnose_cli.specs.Replies.{reply_of_log};
-ghost use Rattle.diagnose_cli.specs.Due.{MayAnswer};
 
-use crate::command::{Command, Single};
+use crate::answering::Answering;
 use crate::show_command::reply_of_model;
-use des_base::Memory;
+use des_base::{Memory, WordList};
 use endings::{Kind, Reply, Stop};
 use gen_plant::generate;
 use log_csv::print_log;
 use log_order::AlarmLog;
+use proof_ledger::Ledger;
 use std::alloc::Global;
 
 /// Prints the model of a generated plant.
-pub fn generate_model_command(alloc: Global, units: u32, start: u64) -> Result<Reply, Stop>
-    requires { units ≤ most_units }
-    ensures { (l : Loads) (words : List (List ℕ)) (book : List BookEntry) → UnlessMemory result (MayAnswer l words (Command.One (Single.GenerateModel units start)) book (once result)) }
-{
-    let plant = generate(alloc, units, start)?;
-    let reply = reply_of_model(alloc, &plant.net);
-    drop(plant);
-    Ok(reply?)
+#[derive(Clone, Copy)]
+pub struct GenerateModelCommand {
+    pub units: u32,
+    pub start: u64,
+}
+
+impl Answering for GenerateModelCommand {
+    type Files = ();
+
+    ghost command = { λ s. GenerateModelCalled s.units s.start };
+
+    fn answer(
+        &self,
+        alloc: Global,
+        _words: &WordList,
+        _files: &(),
+        _book: &mut Ledger,
+    ) -> Result<Reply, Stop> {
+        let plant = generate(alloc, self.units, self.start)?;
+        let reply = reply_of_model(alloc, &plant.net);
+        drop(plant);
+        Ok(reply?)
+    }
+
+    ghost has_files = { λ s. refl };
 }
 
 /// Prints the log of a generated plant.
-pub fn generate_log_command(alloc: Global, units: u32, start: u64) -> Result<Reply, Stop>
-    requires { units ≤ most_units }
-    ensures { (l : Loads) (words : List (List ℕ)) (book : List BookEntry) → UnlessMemory result (MayAnswer l words (Command.One (Single.GenerateLog units start)) book (once result)) }
-{
-    let plant = generate(alloc, units, start)?;
-    let reply = reply_of_log(alloc, &plant.log);
-    drop(plant);
-    Ok(reply?)
+#[derive(Clone, Copy)]
+pub struct GenerateLogCommand {
+    pub units: u32,
+    pub start: u64,
+}
+
+impl Answering for GenerateLogCommand {
+    type Files = ();
+
+    ghost command = { λ s. GenerateLogCalled s.units s.start };
+
+    fn answer(
+        &self,
+        alloc: Global,
+        _words: &WordList,
+        _files: &(),
+        _book: &mut Ledger,
+    ) -> Result<Reply, Stop> {
+        let plant = generate(alloc, self.units, self.start)?;
+        let reply = reply_of_log(alloc, &plant.log);
+        drop(plant);
+        Ok(reply?)
+    }
+
+    ghost has_files = { λ s. refl };
 }
 
 // The reply that has the text of the log.

@@ -8,6 +8,7 @@
 ghost use Rattle.std.specs.Prelude.{◌≡◌, IfOk, drop, map, string_bytes};
 ghost use Rattle.std.specs.Vec.Iter.{into_iter_items};
 
+mod answering;
 mod asking;
 mod bench_command;
 mod cheapest_command;
@@ -15,9 +16,9 @@ mod check_command;
 mod cnf_command;
 mod command;
 mod diagnose_command;
-mod files;
 mod generate_command;
 mod proof_command;
+mod reading;
 mod replay_command;
 mod run;
 mod session_command;

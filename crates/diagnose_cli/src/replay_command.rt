@@ -1,56 +1,45 @@
 // The command `replay`: whether a run explains a log.
-ghost use Rattle.std.specs.Prelude.{◌≡◌, ◌<◌, ℕ, List, [], ◌∷◌, All, length, IfOk};
-ghost use Rattle.log_csv.specs.LogText.{log_of};
+ghost use Rattle.std.specs.Prelude.{◌≡◌, ◌<◌, All, length, IfOk, refl};
+ghost use Rattle.diagnose_cli.specs.declared.command.Single.TheVariants.{Replay as ReplayCalled};
+ghost use Rattle.diagnose_cli.specs.Replies.{kind_of_replayed, reply_of_replayed};
 ghost use Rattle.log_order.specs.Adding.{names_of};
-ghost use Rattle.model_text.specs.ModelFaults.{network_of};
 ghost use Rattle.replay.specs.Replayed.{IsReplayed, NamesKnown};
 ghost use Rattle.replay.specs.Traced.{word_of};
 ghost use Rattle.replay.specs.declared.replaying.Replayed.{Replayed};
-ghost use Rattle.proof_ledger.specs.Book.{BookEntry};
-ghost use Rattle.endings.specs.Files.{loads};
-ghost use Rattle.endings.specs.Transcripts.{UnlessMemory, once};
-ghost use Rattle.diagnose_cli.specs.Replies.{kind_of_replayed, reply_of_replayed};
-ghost use Rattle.diagnose_cli.specs.Due.{MayAnswer, AnswersAfter};
 
-use crate::command::{Command, Single};
-use crate::files::fetch_case;
-use des_base::{Memory, Shelf, WordList};
-use endings::{Kind, Reply, Stop, fetch_run};
+use crate::answering::Answering;
+use crate::reading::CaseRun;
+use des_base::{Memory, WordList};
+use endings::{Kind, Reply, Stop};
 use inquiries::Case;
 use log_order::AlarmLog;
+use proof_ledger::Ledger;
 use replay::{Replayed, Run, replay};
 use report::print_replayed;
 use std::alloc::Global;
 
 /// Says whether a run explains a log within a number of parallel steps.
-pub fn replay_command<F: Shelf>(
-    alloc: Global,
-    words: &WordList,
-    shelf: &mut F,
-    steps: u32,
-) -> Result<Reply, Stop>
-    requires { 3 < length words.now }
-    ensures { (book : List BookEntry) → UnlessMemory result (MayAnswer (loads F.held F.faults shelf.old shelf.new) words.now (Command.One (Single.Replay steps)) book (once result)) }
-{
-    let case = fetch_case(alloc, words, shelf)?;
-    let answer = replay_over(alloc, words, shelf, &case, steps);
-    drop(case);
-    answer
+#[derive(Clone, Copy)]
+pub struct ReplayCommand {
+    pub steps: u32,
 }
 
-// The same where model and log are read.
-fn replay_over<F: Shelf>(
-    alloc: Global,
-    words: &WordList,
-    shelf: &mut F,
-    case: &Case,
-    steps: u32,
-) -> Result<Reply, Stop>
-    requires { 3 < length words.now }
-    ensures { (book : List BookEntry) → (text alarms : List ℕ) → case.now.net ≡ network_of text → case.now.log ≡ log_of alarms → UnlessMemory result (AnswersAfter (loads F.held F.faults shelf.old shelf.new) words.now (Command.One (Single.Replay steps)) book (text ∷ alarms ∷ []) (once result)) }
-{
-    let run = fetch_run(alloc, words, shelf, 3, &case.net)?;
-    Ok(replay_run(alloc, case, &run, steps)?)
+impl Answering for ReplayCommand {
+    type Files = CaseRun;
+
+    ghost command = { λ s. ReplayCalled s.steps };
+
+    fn answer(
+        &self,
+        alloc: Global,
+        _words: &WordList,
+        files: &CaseRun,
+        _book: &mut Ledger,
+    ) -> Result<Reply, Stop> {
+        Ok(replay_run(alloc, &files.case, &files.run, self.steps)?)
+    }
+
+    ghost has_files = { λ s. refl };
 }
 
 // The reply to a run of events of the network.

@@ -13,17 +13,18 @@ ghost use Rattle.diagnose_cli.specs.Run.{Does, LeavesAlone, Ran, is_question};
 ghost use Rattle.endings.specs.Transcripts.{UnlessMemory, once};
 ghost use Rattle.telling.specs.Telling.{RisesExactlyIf};
 
+use crate::answering::answer_over;
 use crate::asking::ask_named;
-use crate::bench_command::bench_command;
-use crate::cheapest_command::cheapest_command;
-use crate::check_command::check_command;
+use crate::bench_command::BenchCommand;
+use crate::cheapest_command::CheapestCommand;
+use crate::check_command::CheckCommand;
 use crate::command::{Command, Limits, Single, read_command};
-use crate::generate_command::{generate_log_command, generate_model_command};
-use crate::replay_command::replay_command;
+use crate::generate_command::{GenerateLogCommand, GenerateModelCommand};
+use crate::replay_command::ReplayCommand;
 use crate::session_command::session_command;
-use crate::show_command::show_command;
-use crate::trace_command::trace_command;
-use crate::twin_command::{TwinLimits, twin_command};
+use crate::show_command::ShowCommand;
+use crate::trace_command::TraceCommand;
+use crate::twin_command::TwinCommand;
 use crate::verdicts_command::verdicts_command;
 use des_base::{Shelf, Sink, WordList};
 use endings::{Reply, Stop, put_once};
@@ -113,36 +114,49 @@ fn answer<F: Shelf>(
     ensures left { (texts : List (List ℕ)) → AreTold (F.held shelf.old) words.now 1 texts → Leaves (Command.One command) words.now texts book.new.entries }
 {
     match command {
-        Single::Trace => trace_command(alloc, words, shelf),
-        Single::Show => show_command(alloc, words, shelf),
-        Single::Replay(steps) => replay_command(alloc, words, shelf, steps),
-        Single::Check => check_command(alloc, words, shelf),
+        Single::Trace => answer_over(alloc, words, shelf, command, &TraceCommand, book),
+        Single::Show => answer_over(alloc, words, shelf, command, &ShowCommand, book),
+        Single::Replay(steps) => {
+            answer_over(alloc, words, shelf, command, &ReplayCommand { steps }, book)
+        }
+        Single::Check => answer_over(alloc, words, shelf, command, &CheckCommand, book),
         Single::Ask { steps } => ask_named(alloc, words, shelf, steps, book),
-        Single::GenerateModel { units, start } => generate_model_command(alloc, units, start),
-        Single::GenerateLog { units, start } => generate_log_command(alloc, units, start),
+        Single::GenerateModel { units, start } => {
+            let generate = GenerateModelCommand { units, start };
+            answer_over(alloc, words, shelf, command, &generate, book)
+        }
+        Single::GenerateLog { units, start } => {
+            let generate = GenerateLogCommand { units, start };
+            answer_over(alloc, words, shelf, command, &generate, book)
+        }
         Single::Bench {
             units,
             start,
             steps,
             budget,
-        } => bench_command(alloc, units, start, Limits { steps, budget }, book),
+        } => {
+            let bench = BenchCommand {
+                units,
+                start,
+                limits: Limits { steps, budget },
+            };
+            answer_over(alloc, words, shelf, command, &bench, book)
+        }
         Single::Twin {
             steps,
             after,
             budget,
-        } => twin_command(
-            alloc,
-            words,
-            shelf,
-            TwinLimits {
+        } => {
+            let twin = TwinCommand {
                 steps,
                 after,
                 budget,
-            },
-            book,
-        ),
+            };
+            answer_over(alloc, words, shelf, command, &twin, book)
+        }
         Single::Cheapest { steps, budget } => {
-            cheapest_command(alloc, words, shelf, Limits { steps, budget }, book)
+            let cheapest = CheapestCommand { steps, budget };
+            answer_over(alloc, words, shelf, command, &cheapest, book)
         }
     }
 }

@@ -1,30 +1,33 @@
 // The command `session`: the rows of a script, additions to a log and questions about it, over one book.
-ghost use Rattle.std.specs.Prelude.{◌≡◌, ◌<◌, ◌≤◌, ℕ, List, [], ◌∷◌, length, Some, IsErrOf};
+ghost use Rattle.std.specs.Prelude.{◌≡◌, ◌<◌, ◌≤◌, [], length, Some, IsErrOf};
 ghost use Rattle.alarm_session.specs.Session.{BeginsAs};
 ghost use Rattle.des_base.specs.Outside.{Rose};
 ghost use Rattle.des_base.specs.declared.TheConstants.{MOST_STEPS};
 ghost use Rattle.diagnose_cli.specs.Commands.{command_of};
-ghost use Rattle.diagnose_cli.specs.Due.{Closes, Due, HasNotBegun, StopsEmpty};
+ghost use Rattle.diagnose_cli.specs.Due.{Due, EndsBySize, HasNotBegun, StopsEmpty};
 ghost use Rattle.endings.specs.Files.{loads};
 ghost use Rattle.endings.specs.Puts.{Speaks};
 ghost use Rattle.diagnose_cli.specs.Run.{SaysStop};
+ghost use Rattle.diagnose_cli.specs.SessionReplies.{IsSession};
 ghost use Rattle.diagnose_cli.specs.Sessions.{MaySay, status_of_session};
 ghost use Rattle.indep.specs.StoredTest.{IsTest};
-ghost use Rattle.log_csv.specs.ScriptText.{script_of};
-ghost use Rattle.model_text.specs.ModelFaults.{network_of};
+ghost use Rattle.log_order.specs.Log.{no_log};
+ghost use Rattle.replay.specs.QuestionSize.{question_size};
 ghost use Rattle.sat_order.specs.Rank.{IsRanked};
 ghost use Rattle.telling.specs.Telling.{RisesExactlyIf};
 ghost use Rattle.telling.specs.declared.each.Broken.TheVariants.{Put};
 
 use crate::command::{Command, Limits};
-use crate::files::fetch_plan;
+use crate::reading::{Reading, Then};
 use crate::session_rows::{Plan, RowTeller};
 use alarm_session::Session;
 use des_base::{Memory, Shelf, Sink, WordList};
+use des_net::Network;
 use endings::{Stop, put_once};
 use indep::Indep;
 use inquiries::{NetworkSearch, set_up};
 use least_faults::MOST_SIZE;
+use log_csv::Script;
 use log_order::AlarmLog;
 use proof_ledger::Ledger;
 use sat_order::Order;
@@ -50,8 +53,14 @@ pub fn session_command<F: Shelf, S: Sink>(
     ensures stopped { SaysStop result → book.new ≡ book.old }
     ensures failures { RisesExactlyIf (result ≡ 4) (S.failures out.old) (S.failures out.new) }
 {
-    match fetch_plan(alloc, words, shelf, limits) {
-        Ok(plan) => {
+    match Then::<Network, Script>::fetch(alloc, words, shelf) {
+        Ok(files) => {
+            let Then { before, last } = files;
+            let plan = Plan {
+                net: before,
+                script: last,
+                limits,
+            };
             let status = carry_out(alloc, &plan, out, book);
             drop(plan);
             status
@@ -60,11 +69,11 @@ pub fn session_command<F: Shelf, S: Sink>(
     }
 }
 
-// The same where model and script are read.
+// Carries them out over what is read of both files.
 fn carry_out<S: Sink>(alloc: Global, plan: &Plan, out: &mut S, book: &mut Ledger) -> u8
     requires steps { plan.now.limits.steps ≤ MOST_STEPS }
     requires empty { book.old.entries ≡ [] }
-    ensures speaks { (words : List (List ℕ)) (text lines : List ℕ) → plan.now.net ≡ network_of text → plan.now.script ≡ script_of lines → Speaks (StopsEmpty (Closes (Command.Session plan.now.limits.steps plan.now.limits.budget) words book.new.entries (text ∷ lines ∷ [])) book.new.entries) (book.new.entries ≡ []) (S.taken out.old) (S.taken out.new) (Rose (S.faults out.old) (S.faults out.new)) result }
+    ensures speaks { Speaks (StopsEmpty (EndsBySize (question_size plan.now.net no_log plan.now.limits.steps) (IsSession plan.now.net plan.now.limits.steps plan.now.limits.budget plan.now.script book.new.entries)) book.new.entries) (book.new.entries ≡ []) (S.taken out.old) (S.taken out.new) (Rose (S.faults out.old) (S.faults out.new)) result }
     ensures stopped { SaysStop result → book.new ≡ book.old }
     ensures failures { RisesExactlyIf (result ≡ 4) (S.failures out.old) (S.failures out.new) }
 {

@@ -1,28 +1,37 @@
 // The command `show`: a model in its plain form.
-ghost use Rattle.std.specs.Prelude.{◌≡◌, ◌<◌, List, length, IfOk, OnOk};
-ghost use Rattle.proof_ledger.specs.Book.{BookEntry};
-ghost use Rattle.model_text.specs.ReadBack.{IsAsRead, ReadsBack};
-ghost use Rattle.endings.specs.Files.{loads};
-ghost use Rattle.endings.specs.Transcripts.{UnlessMemory, once};
+ghost use Rattle.std.specs.Prelude.{◌≡◌, IfOk, OnOk, refl};
+ghost use Rattle.diagnose_cli.specs.declared.command.Single.TheVariants.{Show as ShowCalled};
 ghost use Rattle.diagnose_cli.specs.Replies.{reply_of_model};
-ghost use Rattle.diagnose_cli.specs.Due.{MayAnswer};
+ghost use Rattle.model_text.specs.ReadBack.{IsAsRead, ReadsBack};
 
-use crate::command::{Command, Single};
-use des_base::{Memory, Shelf, WordList};
+use crate::answering::Answering;
+use des_base::{Memory, WordList};
 use des_net::Network;
-use endings::{Kind, Reply, Stop, fetch_model};
+use endings::{Kind, Reply, Stop};
 use model_text::print_model;
+use proof_ledger::Ledger;
 use std::alloc::Global;
 
 /// Prints the network of a model in its plain form.
-pub fn show_command<F: Shelf>(alloc: Global, words: &WordList, shelf: &mut F) -> Result<Reply, Stop>
-    requires { 1 < length words.now }
-    ensures { (book : List BookEntry) → UnlessMemory result (MayAnswer (loads F.held F.faults shelf.old shelf.new) words.now (Command.One Single.Show) book (once result)) }
-{
-    let net = fetch_model(alloc, words, shelf, 1)?;
-    let reply = reply_of_model(alloc, &net);
-    drop(net);
-    Ok(reply?)
+#[derive(Clone, Copy)]
+pub struct ShowCommand;
+
+impl Answering for ShowCommand {
+    type Files = Network;
+
+    ghost command = { λ s. ShowCalled };
+
+    fn answer(
+        &self,
+        alloc: Global,
+        _words: &WordList,
+        files: &Network,
+        _book: &mut Ledger,
+    ) -> Result<Reply, Stop> {
+        Ok(reply_of_model(alloc, files)?)
+    }
+
+    ghost has_files = { λ s. refl };
 }
 
 /// The reply that has the text of the network.

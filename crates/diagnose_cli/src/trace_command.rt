@@ -1,49 +1,40 @@
 // The command `trace`: whether the network of a model can perform a run.
-ghost use Rattle.std.specs.Prelude.{◌≡◌, ◌<◌, ℕ, List, [], ◌∷◌, All, length, IfOk};
-ghost use Rattle.model_text.specs.ModelFaults.{network_of};
-ghost use Rattle.proof_ledger.specs.Book.{BookEntry};
+ghost use Rattle.std.specs.Prelude.{◌≡◌, ◌<◌, All, length, IfOk, refl};
+ghost use Rattle.diagnose_cli.specs.declared.command.Single.TheVariants.{Trace as TraceCalled};
+ghost use Rattle.diagnose_cli.specs.Replies.{kind_of_traced, reply_of_traced};
 ghost use Rattle.replay.specs.Traced.{IsTraced, word_of};
 ghost use Rattle.replay.specs.declared.tracing.Traced.{Traced};
-ghost use Rattle.endings.specs.Files.{loads};
-ghost use Rattle.endings.specs.Transcripts.{UnlessMemory, once};
-ghost use Rattle.diagnose_cli.specs.Replies.{kind_of_traced, reply_of_traced};
-ghost use Rattle.diagnose_cli.specs.Due.{MayAnswer, AnswersAfter};
 
-use crate::command::{Command, Single};
-use des_base::{Memory, Shelf, WordList};
+use crate::answering::Answering;
+use crate::reading::RunOver;
+use des_base::{Memory, WordList};
 use des_net::Network;
-use endings::{Kind, Reply, Stop, fetch_model, fetch_run};
+use endings::{Kind, Reply, Stop};
+use proof_ledger::Ledger;
 use replay::{Run, Traced, trace};
 use report::print_traced;
 use std::alloc::Global;
 
 /// Says whether the network of a model can perform a run.
-pub fn trace_command<F: Shelf>(
-    alloc: Global,
-    words: &WordList,
-    shelf: &mut F,
-) -> Result<Reply, Stop>
-    requires { 2 < length words.now }
-    ensures { (book : List BookEntry) → UnlessMemory result (MayAnswer (loads F.held F.faults shelf.old shelf.new) words.now (Command.One Single.Trace) book (once result)) }
-{
-    let net = fetch_model(alloc, words, shelf, 1)?;
-    let answer = trace_over(alloc, words, shelf, &net);
-    drop(net);
-    answer
-}
+#[derive(Clone, Copy)]
+pub struct TraceCommand;
 
-// The same where the network is read.
-fn trace_over<F: Shelf>(
-    alloc: Global,
-    words: &WordList,
-    shelf: &mut F,
-    net: &Network,
-) -> Result<Reply, Stop>
-    requires { 2 < length words.now }
-    ensures { (book : List BookEntry) → (text : List ℕ) → net.now ≡ network_of text → UnlessMemory result (AnswersAfter (loads F.held F.faults shelf.old shelf.new) words.now (Command.One Single.Trace) book (text ∷ []) (once result)) }
-{
-    let run = fetch_run(alloc, words, shelf, 2, net)?;
-    Ok(trace_run(alloc, net, &run)?)
+impl Answering for TraceCommand {
+    type Files = RunOver;
+
+    ghost command = { λ s. TraceCalled };
+
+    fn answer(
+        &self,
+        alloc: Global,
+        _words: &WordList,
+        files: &RunOver,
+        _book: &mut Ledger,
+    ) -> Result<Reply, Stop> {
+        Ok(trace_run(alloc, &files.net, &files.run)?)
+    }
+
+    ghost has_files = { λ s. refl };
 }
 
 // The reply to a run of events of the network.

@@ -1,23 +1,16 @@
 // The command `twin`: whether a run with a fault and a run without it look alike.
-ghost use Rattle.std.specs.Prelude.{◌≡◌, ◌≢◌, ◌<◌, ◌≤◌, ℕ, List, [], ◌∷◌, length, Some, IfErr, IfOk};
+ghost use Rattle.std.specs.Prelude.{◌≡◌, ◌<◌, ◌≤◌, ℕ, List, [], length, IfOk, refl};
 ghost use Rattle.des_base.specs.declared.TheConstants.{MOST_STEPS};
-ghost use Rattle.des_base.specs.CommandWords.{word_at};
-ghost use Rattle.des_net.specs.Network.{Net};
-ghost use Rattle.diagnose_cli.specs.Due.{MayAnswer, Closes};
-ghost use Rattle.endings.specs.Files.{loads};
-ghost use Rattle.diagnose_cli.specs.Rows.{AreTold};
-ghost use Rattle.endings.specs.Transcripts.{UnlessMemory, once};
-ghost use Rattle.diagnose_cli.specs.TwinReplies.{LeavesOfWord, MayTest, SaysTwin, kind_of_twin, reply_of_twin};
-ghost use Rattle.event_costs.specs.CostText.{fault_event_of};
-ghost use Rattle.model_text.specs.ModelFaults.{network_of};
+ghost use Rattle.diagnose_cli.specs.declared.command.Single.TheVariants.{Twin as TwinCalled};
+ghost use Rattle.diagnose_cli.specs.TwinReplies.{MayTest, SaysTwin, kind_of_twin, reply_of_twin};
 ghost use Rattle.proof_ledger.specs.Book.{BookEntry};
 ghost use Rattle.report.specs.Replies.{TwinEventsKnown};
 ghost use Rattle.twin_test.specs.Tested.{IsTested, LeavesTwins};
 
-use crate::command::{Command, Single};
-use des_base::{EventId, Memory, Shelf, WordList};
+use crate::answering::Answering;
+use des_base::{EventId, Memory, WordList};
 use des_net::Network;
-use endings::{Kind, Reply, Stop, fetch_model};
+use endings::{Kind, Reply, Stop};
 use event_costs::find_fault;
 use indep::Indep;
 use inquiries::{NetworkSearch, set_up};
@@ -29,79 +22,39 @@ use sat_solve::Solver;
 use std::alloc::Global;
 use twin_test::{Twin, twin_size, twin_test};
 
-/// What is asked for: runs of at most this many parallel steps, in how many of them at least something is seen after the fault, and
-/// as many clauses learnt as the budget says.
+/// Says whether a run with the fault event that the second word names, and a run without it, look alike: runs of at most this many
+/// parallel steps, in how many of them at least something is seen after the fault, by a search that may learn as many clauses as the
+/// budget says.
 #[derive(Clone, Copy)]
-pub struct TwinLimits {
+pub struct TwinCommand {
     pub steps: u32,
     pub after: u32,
     pub budget: u64,
 }
 
-/// Says whether a run with the fault event that the second word names, and a run without it, look alike.
-pub fn twin_command<F: Shelf>(
-    alloc: Global,
-    words: &WordList,
-    shelf: &mut F,
-    limits: TwinLimits,
-    book: &mut Ledger,
-) -> Result<Reply, Stop>
-    requires words { 2 < length words.now }
-    requires steps { limits.steps ≤ MOST_STEPS }
-    requires after { limits.after ≤ MOST_STEPS }
-    requires empty { book.old.entries ≡ [] }
-    ensures due { UnlessMemory result (MayAnswer (loads F.held F.faults shelf.old shelf.new) words.now (Command.One (Single.Twin limits.steps limits.after limits.budget)) book.new.entries (once result)) }
-    ensures stopped { IfErr result (λ stop. stop ≢ Stop.Memory → book.new ≡ book.old) }
-    ensures left { (text : List ℕ) → AreTold (F.held shelf.old) words.now 1 (text ∷ []) → LeavesOfWord (network_of text) (word_at words.now 2) limits.steps limits.after limits.budget book.new.entries }
-{
-    let net = fetch_model(alloc, words, shelf, 1)?;
-    let answer = ask_of_word(alloc, &net, words.word(2), limits, book);
-    drop(net);
-    answer
-}
+impl Answering for TwinCommand {
+    type Files = Network;
 
-// The same where the network is read.
-fn ask_of_word(
-    alloc: Global,
-    net: &Network,
-    word: &str,
-    limits: TwinLimits,
-    book: &mut Ledger,
-) -> Result<Reply, Stop>
-    requires steps { limits.steps ≤ MOST_STEPS }
-    requires after { limits.after ≤ MOST_STEPS }
-    requires empty { book.old.entries ≡ [] }
-    ensures due { (words : List (List ℕ)) (text : List ℕ) → word.now ≡ word_at words 2 → net.now ≡ network_of text → UnlessMemory result (Closes (Command.One (Single.Twin limits.steps limits.after limits.budget)) words book.new.entries (text ∷ []) (once result)) }
-    ensures stopped { IfErr result (λ stop. stop ≢ Stop.Memory → book.new ≡ book.old) }
-    ensures left { LeavesOfWord net.now word.now limits.steps limits.after limits.budget book.new.entries }
-{
-    match find_fault(net, word.as_bytes()) {
-        Some(fault) => ask_about(alloc, net, fault, limits, book),
-        None => Err(Stop::NoFault),
-    }
-}
+    ghost command = { λ s. TwinCalled s.steps s.after s.budget };
 
-// The same about a fault event of the network, which the word names.
-fn ask_about(
-    alloc: Global,
-    net: &Network,
-    fault: EventId,
-    limits: TwinLimits,
-    book: &mut Ledger,
-) -> Result<Reply, Stop>
-    requires fault { fault < length net.now.events }
-    requires steps { limits.steps ≤ MOST_STEPS }
-    requires after { limits.after ≤ MOST_STEPS }
-    requires empty { book.old.entries ≡ [] }
-    ensures due { (words : List (List ℕ)) (text word : List ℕ) → word ≡ word_at words 2 → net.now ≡ network_of text → fault_event_of net.now word ≡ Some fault → UnlessMemory result (Closes (Command.One (Single.Twin limits.steps limits.after limits.budget)) words book.new.entries (text ∷ []) (once result)) }
-    ensures stopped { IfErr result (λ stop. stop ≢ Stop.Memory → book.new ≡ book.old) }
-    ensures left { LeavesTwins net.now fault limits.steps limits.after limits.budget book.new.entries }
-{
-    let size = twin_size(net, limits.steps, limits.after);
-    if size > MOST_SIZE {
-        return Err(Stop::Large(size));
+    fn answer(
+        &self,
+        alloc: Global,
+        words: &WordList,
+        files: &Network,
+        book: &mut Ledger,
+    ) -> Result<Reply, Stop> {
+        let Some(fault) = find_fault(files, words.word(2).as_bytes()) else {
+            return Err(Stop::NoFault);
+        };
+        let size = twin_size(files, self.steps, self.after);
+        if size > MOST_SIZE {
+            return Err(Stop::Large(size));
+        }
+        Ok(reply_about(alloc, files, fault, *self, book)?)
     }
-    Ok(reply_about(alloc, net, fault, limits, book)?)
+
+    ghost has_files = { λ s. refl };
 }
 
 // The reply to a twin question that is not too large.
@@ -109,7 +62,7 @@ fn reply_about(
     alloc: Global,
     net: &Network,
     fault: EventId,
-    limits: TwinLimits,
+    limits: TwinCommand,
     book: &mut Ledger,
 ) -> Result<Reply, Memory>
     requires fault { fault < length net.now.events }
@@ -124,7 +77,7 @@ fn reply_about(
 }
 
 // The reply that tells what a test came to.
-fn tell(alloc: Global, net: &Network, limits: TwinLimits, answer: &Twin) -> Result<Reply, Memory>
+fn tell(alloc: Global, net: &Network, limits: TwinCommand, answer: &Twin) -> Result<Reply, Memory>
     requires steps { limits.steps ≤ MOST_STEPS }
     requires known { TwinEventsKnown net.now answer.now }
     ensures { (fault : ℕ) → (book : List BookEntry) → IsTested net.now fault limits.steps limits.after limits.budget book answer.now → IfOk result (SaysTwin net.now fault limits.steps limits.after limits.budget book) }
@@ -138,7 +91,7 @@ fn test(
     alloc: Global,
     net: &Network,
     fault: EventId,
-    limits: TwinLimits,
+    limits: TwinCommand,
     book: &mut Ledger,
 ) -> Result<Twin, Memory>
     requires fault { fault < length net.now.events }
@@ -160,7 +113,7 @@ fn test(
 struct TwinTest<'a> {
     net: &'a Network,
     fault: EventId,
-    limits: TwinLimits,
+    limits: TwinCommand,
 }
 
 impl NetworkSearch<()> for TwinTest<'_> {
@@ -181,7 +134,7 @@ impl NetworkSearch<()> for TwinTest<'_> {
         _out: &mut (),
     ) -> Result<Twin, Memory> {
         let solver = Solver::new(alloc, order);
-        let TwinLimits {
+        let TwinCommand {
             steps,
             after,
             budget,

@@ -1,21 +1,20 @@
 // The command `verdicts`: what explains a log with the fewest faults, and the verdict on each fault event.
-ghost use Rattle.std.specs.Prelude.{◌≡◌, ◌<◌, ◌≤◌, ⊤, ℕ, List, [], ◌∷◌, length, Some};
+ghost use Rattle.std.specs.Prelude.{◌≡◌, ◌<◌, ◌≤◌, ⊤, ℕ, List, [], length, Some};
 ghost use Rattle.des_base.specs.Outside.{Rose};
 ghost use Rattle.des_base.specs.declared.TheConstants.{MOST_STEPS};
 ghost use Rattle.diagnose_cli.specs.Commands.{command_of};
-ghost use Rattle.diagnose_cli.specs.Due.{Closes, Due, HasNotBegun, StopsEmpty};
+ghost use Rattle.diagnose_cli.specs.Due.{Due, EndsBySize, HasNotBegun, StopsEmpty};
 ghost use Rattle.endings.specs.Files.{loads};
 ghost use Rattle.endings.specs.Puts.{Speaks};
-ghost use Rattle.diagnose_cli.specs.Rows.{AreTold};
+ghost use Rattle.diagnose_cli.specs.Rows.{AreTold, Leaves};
 ghost use Rattle.diagnose_cli.specs.Run.{SaysStop};
-ghost use Rattle.diagnose_cli.specs.VerdictReplies.{status_of_told};
-ghost use Rattle.log_csv.specs.LogText.{log_of};
-ghost use Rattle.model_text.specs.ModelFaults.{network_of};
+ghost use Rattle.diagnose_cli.specs.VerdictReplies.{IsVerdicts, status_of_told};
+ghost use Rattle.replay.specs.QuestionSize.{question_size};
 ghost use Rattle.telling.specs.Telling.{RisesExactlyIf};
 ghost use Rattle.verdict_telling.specs.Left.{LeavesVerdicts};
 
 use crate::command::{Command, Limits};
-use crate::files::fetch_case;
+use crate::reading::Reading;
 use des_base::{Shelf, Sink, WordList};
 use endings::{Stop, put_once};
 use inquiries::Case;
@@ -42,10 +41,10 @@ pub fn verdicts_command<F: Shelf, S: Sink>(
     requires empty { book.old.entries ≡ [] }
     ensures speaks { Speaks (StopsEmpty (Due (loads F.held F.faults shelf.old shelf.new) words.now book.new.entries) book.new.entries) (HasNotBegun words.now book.new.entries) (S.taken out.old) (S.taken out.new) (Rose (S.faults out.old) (S.faults out.new)) result }
     ensures stopped { SaysStop result → book.new ≡ book.old }
-    ensures left { (text alarms : List ℕ) → AreTold (F.held shelf.old) words.now 1 (text ∷ alarms ∷ []) → LeavesVerdicts (network_of text) (log_of alarms) limits.steps limits.budget book.new.entries }
+    ensures left { (texts : List (List ℕ)) → AreTold (F.held shelf.old) words.now 1 texts → Leaves (Command.Verdicts limits.steps limits.budget) words.now texts book.new.entries }
     ensures failures { RisesExactlyIf (result ≡ 4) (S.failures out.old) (S.failures out.new) }
 {
-    match fetch_case(alloc, words, shelf) {
+    match Case::fetch(alloc, words, shelf) {
         Ok(case) => {
             let status = judge_case(alloc, &case, limits, out, book);
             drop(case);
@@ -55,7 +54,7 @@ pub fn verdicts_command<F: Shelf, S: Sink>(
     }
 }
 
-// The same where both files are read.
+// Tells so over what is read of both files.
 fn judge_case<S: Sink>(
     alloc: Global,
     case: &Case,
@@ -65,7 +64,7 @@ fn judge_case<S: Sink>(
 ) -> u8
     requires steps { limits.steps ≤ MOST_STEPS }
     requires empty { book.old.entries ≡ [] }
-    ensures speaks { (words : List (List ℕ)) (text alarms : List ℕ) → case.now.net ≡ network_of text → case.now.log ≡ log_of alarms → Speaks (StopsEmpty (Closes (Command.Verdicts limits.steps limits.budget) words book.new.entries (text ∷ alarms ∷ [])) book.new.entries) ⊤ (S.taken out.old) (S.taken out.new) (Rose (S.faults out.old) (S.faults out.new)) result }
+    ensures speaks { Speaks (StopsEmpty (EndsBySize (question_size case.now.net case.now.log limits.steps) (IsVerdicts case.now.net case.now.log limits.steps limits.budget book.new.entries)) book.new.entries) ⊤ (S.taken out.old) (S.taken out.new) (Rose (S.faults out.old) (S.faults out.new)) result }
     ensures stopped { SaysStop result → book.new ≡ book.old }
     ensures left { LeavesVerdicts case.now.net case.now.log limits.steps limits.budget book.new.entries }
     ensures failures { RisesExactlyIf (result ≡ 4) (S.failures out.old) (S.failures out.new) }

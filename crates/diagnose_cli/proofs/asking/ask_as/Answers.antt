@@ -1,19 +1,21 @@
 -- By what the inquiry reads.
-use Rattle.std.proofs.Common.{◌∙◌, Option, ap, subst, sym}
+use Rattle.std.proofs.Common.{◌∙◌, Option, ap, sym}
 use Rattle.std.specs.Prelude.{option_map}
 use Rattle.endings.specs.Files.{loads}
-use Rattle.diagnose_cli.specs.Asking.{IsAnswerDue}
-use Rattle.diagnose_cli.specs.Questions.{Request, request_by}
-use Rattle.diagnose_cli.proofs.Requested.{asked_read, never_unasked, usage_for}
+use Rattle.diagnose_cli.specs.Questions.{is_request, request_by}
+use Rattle.diagnose_cli.proofs.Requested.{asked_read, never_unasked, none_asked, usage_for}
 use Rattle.diagnose_cli.proofs.asking.ask_as.Goals as goal
 
-pub returns-in-Some-clause-asked : goal.returns-in-Some-clause-asked
-returns-in-Some-clause-asked g c =
+pub answer_over-requires-clause-asks : goal.answer_over-requires-clause-asks
+answer_over-requires-clause-asks g c =
+    let asks = g.Q.Replying in
+    record { name = c.requires.name; last = ap asks.question.spelled (sym c.word.ensures) ∙ sym c.read.ensures ∙ ap (λ (o : Option _). option_map asks.word o) c.in-Some.is }
+
+pub answer_over-requires-clause-calls : goal.answer_over-requires-clause-calls
+answer_over-requires-clause-calls g c =
     let asks = g.Q.Replying in
     let read = asked_read asks.question c.args.words.now asks.listed asks.word c.read.result c.word.result.now c.requires.name c.word.ensures c.read.ensures in
-    let request = read ∙ ap (λ (o : Option _). request_by asks.question (option_map asks.word o)) c.in-Some.is in
-    let l = loads g.F.Shelf.held g.F.Shelf.faults c.args.shelf.now c.ask_question.new.shelf in
-    subst (λ (r : Request). IsAnswerDue l c.args.words.now c.args.steps r c.ask_question.new.book.entries c.ask_question.result) (sym request) c.ask_question.ensures.asked
+    ap is_request (read ∙ ap (λ (o : Option _). request_by asks.question (option_map asks.word o)) c.in-Some.is)
 
 pub returns-in-Some-clause-unasked_shelf : goal.returns-in-Some-clause-unasked_shelf
 returns-in-Some-clause-unasked_shelf g c none =
@@ -27,9 +29,11 @@ returns-in-Some-clause-unasked_book g c none =
     let read = asked_read asks.question c.args.words.now asks.listed asks.word c.read.result c.word.result.now c.requires.name c.word.ensures c.read.ensures in
     absurd (never_unasked _ asks.question (asks.word c.in-Some.inquiry) (read ∙ ap (λ (o : Option _). request_by asks.question (option_map asks.word o)) c.in-Some.is) none)
 
-pub returns-in-None-clause-asked : goal.returns-in-None-clause-asked
-returns-in-None-clause-asked g c =
+pub returns-in-None-clause-due : goal.returns-in-None-clause-due
+returns-in-None-clause-due g c _ =
     let asks = g.Q.Replying in
     let read = asked_read asks.question c.args.words.now asks.listed asks.word c.read.result c.word.result.now c.requires.name c.word.ensures c.read.ensures in
-    let l = loads g.F.Shelf.held g.F.Shelf.faults c.args.shelf.now c.args.shelf.now in
-    usage_for l c.args.words.now c.args.steps _ c.args.book.now.entries (read ∙ ap (λ (o : Option _). request_by asks.question (option_map asks.word o)) c.in-None.is)
+    usage_for (loads g.F.Shelf.held g.F.Shelf.faults c.args.shelf.now c.args.shelf.now) c.args.words.now c.args.steps c.args.book.now.entries (read ∙ ap (λ (o : Option _). request_by asks.question (option_map asks.word o)) c.in-None.is)
+
+pub returns-in-None-clause-left : goal.returns-in-None-clause-left
+returns-in-None-clause-left g c = none_asked (g.F.Shelf.held c.args.shelf.now) c.args.steps c.args.words.now c.args.book.now.entries c.requires.empty

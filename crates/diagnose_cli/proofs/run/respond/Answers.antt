@@ -6,10 +6,9 @@ use Rattle.endings.specs.Files.{loads}
 use Rattle.diagnose_cli.specs.declared.command.Command.TheVariants.{One, Session, Verdicts}
 use Rattle.endings.specs.declared.stop.Stop.TheVariants.{Usage}
 use Rattle.diagnose_cli.proofs.Called.{spelled_fits}
-use Rattle.diagnose_cli.proofs.GenerateAnswers.{asks_nothing, has_files}
-use Rattle.diagnose_cli.proofs.Left.{left_verdicts, none_left}
+use Rattle.diagnose_cli.proofs.Left.{none_left}
 use Rattle.diagnose_cli.proofs.Once.{cuts_empty, done, once_empty, stop_left}
-use Rattle.diagnose_cli.proofs.Spelled.{called_so, either_way, none_called, one_has_not_begun, spelled_due, spelled_left}
+use Rattle.diagnose_cli.proofs.Spelled.{asks_nothing, called_so, either_way, has_files, none_called, one_has_not_begun, spelled_due, spelled_left}
 use Rattle.diagnose_cli.specs.Run.{is_question}
 use Rattle.endings.specs.Transcripts.{once}
 use Rattle.endings.proofs.Once.{speaks_once}
@@ -91,7 +90,7 @@ returns-in-Some-Verdicts-clause-left g c =
     let steps = c.in-Some-Verdicts.steps in
     let budget = c.in-Some-Verdicts.budget in
     spelled_left _ (Verdicts steps budget) (sym c.read_command.ensures ∙ c.in-Some-Verdicts.is ∙ ap Some c.in-Some-Verdicts.field-0-is)
-    (left_verdicts (g.F.Shelf.held c.args.shelf.now) c.args.words.now c.verdicts_command.new.book.entries steps budget c.verdicts_command.ensures.left)
+    c.verdicts_command.ensures.left
 
 pub returns-in-Some-One-clause-left : goal.returns-in-Some-One-clause-left
 returns-in-Some-One-clause-left g c =

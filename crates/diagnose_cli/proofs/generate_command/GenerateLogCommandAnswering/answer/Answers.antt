@@ -1,0 +1,22 @@
+-- The log of the plant that is made.
+use Rattle.std.proofs.Common.{Ok, ◌∙◌, ap}
+use Rattle.endings.specs.Transcripts.{once}
+use Rattle.diagnose_cli.specs.declared.command.Command.TheVariants.{One}
+use Rattle.diagnose_cli.specs.declared.command.Single.TheVariants.{GenerateLog}
+use Rattle.diagnose_cli.specs.Due.{Closes}
+use Rattle.diagnose_cli.specs.Replies.{reply_of_log}
+use Rattle.diagnose_cli.proofs.Ones.{is_one}
+use Rattle.diagnose_cli.proofs.Orders.{memory_free}
+use Rattle.diagnose_cli.proofs.ReadOver.{over_none}
+use Rattle.diagnose_cli.proofs.generate_command.GenerateLogCommandAnswering.answer.Goals as goal
+
+pub returns-in_err-plant-clause-closes : goal.returns-in_err-plant-clause-closes
+returns-in_err-plant-clause-closes c texts read = memory_free _ _ c.from_residual.ensures.1
+
+pub returns-in_err-reply-clause-closes : goal.returns-in_err-reply-clause-closes
+returns-in_err-reply-clause-closes c texts read = memory_free _ _ c.from_residual-in_err-reply.ensures.1
+
+pub returns-clause-closes : goal.returns-clause-closes
+returns-clause-closes c texts read never =
+    let reply = c.in_ok-reply.field-0 in
+    over_none (λ ts. Closes (One (GenerateLog c.args.self.now.units c.args.self.now.start)) c.args._words.now c.args._book.now.entries ts (once (Ok reply))) texts read (is_one _ reply (c.in_ok-reply.ensures ∙ ap reply_of_log c.in_ok-plant.ensures.log))
