@@ -47,8 +47,8 @@ least 0.03; CaDiCaL's library (1.5.3) was asked all bounds on the same formulas.
 | units | 9 | 76 | 76 | 372 | 87 | 87 | 0.91 | 0.30 | 0.4 | 0, 0, 0 |
 | valves | 4 | 3749 | 4863 | 24 | 17 | 17 | 1.08 | 1.00 | 1.5 | 0, 0, 0 |
 
-Over the 15 families, in geometric means of theirs: 0.67 of the clauses before (0.97 without the empty log and equal alarms), 0.76 of the seconds, and 0.60 of those of CaDiCaL's library, of which stations take twice as long and the torus in the order of each component 1.5 times. The first run that
-is found has 823 faults in all, where it had 3,021 and 456 are needed.
+Over the 15 families, in geometric means of theirs: 0.67 of the clauses before (0.97 without the empty log and equal alarms), 0.76 of the seconds, and 0.60 of those of CaDiCaL's library, of which stations take twice as long and the torus in the order of each component 1.5 times (0.98 by two growths of activities each, over nine
+questions about four logs: bench/NOTES.md). The first run that is found has 823 faults in all, where it had 3,021 and 456 are needed.
 
 What stays dear are more steps than a log needs. With 1.5 times and twice as many steps it takes so many times as many clauses (and twenty more, in geometric means over the questions that were answered): units 2.2 and 2.6, grids 2.8, protection 5.6 and 12, telecom 9.9 and 35, torus 24 and 48 in
 the whole order, 7 and 46 in that of each component, 17 and 107 in blocks; meshes 0.9. bench/NOTES.md says what was tried against that.
