@@ -110,7 +110,7 @@ fn meet(first: &[CompId], second: &[CompId]) -> bool {
 }
 
 // For each alarm the components that each event touches that it may stand for: none where it is doubtful.
-fn devices(question: Question<'_>) -> Result<Vec<Vec<CompId>>, Memory>
+pub fn devices(question: Question<'_>) -> Result<Vec<Vec<CompId>>, Memory>
     ensures { IfOk result (λ devices. length devices.items ≡ length question.entry.log.now.alarms) }
 {
     let mut devices = Vec::new(question.alloc);
@@ -171,7 +171,7 @@ fn is_touched_by_each(question: Question<'_>, alarm: u32, comp: CompId) -> bool
 }
 
 // Whether an alarm may stand for an event: it has the event's label.
-fn may_be(question: Question<'_>, alarm: u32, event: EventId) -> bool
+pub fn may_be(question: Question<'_>, alarm: u32, event: EventId) -> bool
     requires alarm { alarm < length question.log.now.alarms }
     requires event { event < length question.net.now.events }
 {

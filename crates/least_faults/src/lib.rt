@@ -20,6 +20,7 @@ mod laws;
 mod loose;
 mod parts;
 mod question;
+mod scattered;
 mod searching;
 
 pub use adding::{Reserved, add_draft, reserve_draft};

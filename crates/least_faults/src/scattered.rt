@@ -1,0 +1,137 @@
+// What a search within bounds tries where most alarms may be of several devices and few of them are in an order: device by device from the last one on,
+// and for each step by step from the last one on, that no alarm passes on an event that touches this device and none before it.
+//
+// The counter counts fault events one after another. So a search that settles the last ones first knows soon how many faults are left to the others,
+// and what it learns says which alarms are left to them, whatever alarms those behind were. By activity it goes through the ways to share the alarms out among
+// the devices. Without a bound there is nothing to be counted, and it would be in the way. No contract says that it is good to try this.
+ghost use Rattle.std.specs.Prelude.{◌≡◌, ◌<◌, ◌≤◌, length};
+ghost use Rattle.least_faults.specs.Parts.{BelongTo};
+
+use crate::deadlines::{devices, may_be, missed_deadlines};
+use crate::parts::Parts;
+use crate::question::Question;
+use des_base::{CompId, EventId, Memory};
+use log_encode::LogCode;
+use prop_core::Lit;
+
+// No more literals are tried.
+const MOST: usize = 100_000;
+
+// An event that an alarm may stand for: the alarm, and the number of the event among those.
+#[derive(Clone, Copy)]
+struct Link {
+    alarm: u32,
+    number: u32,
+}
+
+// Advises the solver on what it searches within bounds, if alarms are scattered. Where memory is wanting it goes on without.
+pub fn advise_within<R: Fn(u32) -> u64>(question: Question<'_>, parts: &mut Parts<R>)
+    requires { BelongTo question.net.now question.log.now parts.old }
+    ensures { parts.new ≡ parts.old }
+{
+    if let Ok(Some(tries)) = tries_within(question, &parts.code) {
+        parts.solver.try_first(tries);
+    }
+}
+
+// What is tried, the missed deadlines first: none where alarms aren't scattered.
+fn tries_within(question: Question<'_>, code: &LogCode) -> Result<Option<Vec<Lit>>, Memory>
+    requires { length code.now.coded.log.alarms ≡ length question.log.now.alarms }
+{
+    let devices = devices(question)?;
+    if !are_scattered(question, devices.as_slice()) {
+        return Ok(None);
+    }
+    let mut tries = missed_deadlines(question, code)?;
+    push_by_device(question, code, &mut tries)?;
+    Ok(Some(tries))
+}
+
+// Whether more than half of the alarms are certain and surely of no device, and there are fewer pairs than a quarter of the alarms and one.
+fn are_scattered(question: Question<'_>, devices: &[Vec<CompId>]) -> bool
+    requires { length devices.now ≡ length question.log.now.alarms }
+{
+    let alarms = question.log.alarms();
+    let mut scattered = 0_u32;
+    for alarm in 0..alarms {
+        if devices[alarm as usize].is_empty() && !question.log.is_maybe(alarm) {
+            scattered = scattered.saturating_add(1);
+        }
+    }
+    scattered > alarms / 2 && question.log.pairs().len() < alarms as usize / 4 + 1
+}
+
+// Adds what is tried, as long as there aren't too many.
+fn push_by_device(
+    question: Question<'_>,
+    code: &LogCode,
+    tries: &mut Vec<Lit>,
+) -> Result<(), Memory>
+    requires { length code.now.coded.log.alarms ≡ length question.log.now.alarms }
+{
+    let links = links_by_device(question)?;
+    for place in (0..links.len()).rev() {
+        push_steps(&links[place], code, question.log.alarms(), tries)?;
+    }
+    Ok(())
+}
+
+// Adds what is tried of one device.
+fn push_steps(
+    links: &[Link],
+    code: &LogCode,
+    alarms: u32,
+    tries: &mut Vec<Lit>,
+) -> Result<(), Memory>
+    requires { alarms ≤ length code.now.coded.log.alarms }
+{
+    for step in (0..code.steps()).rev() {
+        for link in links {
+            if link.alarm < alarms && tries.len() < MOST {
+                if let Some(lit) = code.unpassed(link.alarm, link.number, step) {
+                    tries.push(lit)?;
+                }
+            }
+        }
+    }
+    Ok(())
+}
+
+// For each device the links of the events that touch it and none before it.
+fn links_by_device(question: Question<'_>) -> Result<Vec<Vec<Link>>, Memory> {
+    let mut links = Vec::new(question.alloc);
+    for _ in 0..question.net.components() {
+        links.push(Vec::new(question.alloc))?;
+    }
+    for alarm in 0..question.log.alarms() {
+        push_links(question, alarm, &mut links)?;
+    }
+    Ok(links)
+}
+
+// Adds the links of an alarm.
+fn push_links(question: Question<'_>, alarm: u32, links: &mut [Vec<Link>]) -> Result<(), Memory>
+    requires { alarm < length question.log.now.alarms }
+{
+    let mut number = 0_u32;
+    for event in 0..question.net.events() {
+        if may_be(question, alarm, EventId(event)) {
+            if let Some(own) = links.get_mut(first_device(question, EventId(event)) as usize) {
+                own.push(Link { alarm, number })?;
+            }
+            number = number.saturating_add(1);
+        }
+    }
+    Ok(())
+}
+
+// The least number of a device that an event touches.
+fn first_device(question: Question<'_>, event: EventId) -> u32
+    requires { event < length question.net.now.events }
+{
+    let mut first = u32::MAX;
+    for part in question.net.event(event).parts.as_slice() {
+        first = first.min(part.comp.0);
+    }
+    first
+}
