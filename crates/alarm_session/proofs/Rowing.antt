@@ -170,7 +170,7 @@ module _ (net : Net) (n budget : ℕ) where
   log_after_more before [] row = refl
   log_after_more before (first ∷ rows) row = log_after_more (after_row net n before first) rows row
 
-  -- what is told with one more row
+  -- what came of the rows, with one more
   pub rows_told_more : (old : Stage) (rows : List Row) (row : Row) (mid new : Stage) (told : List RowTold) (here : RowTold) → AreRowsTold net n budget old rows mid told →
       IsRowTold net n budget mid row new here → AreRowsTold net n budget old (rows ++ row ∷ []) new (told ++ here ∷ [])
   rows_told_more old [] row mid new told here are is = (new, here, [], subst (λ s. IsRowTold net n budget s row new here) are.0 is, (refl, refl), ap (λ t. t ++ here ∷ []) are.1)

@@ -51,7 +51,7 @@ refusal_of_alarm net n log name labels doubtful = refusal_with (alarm_refusal lo
 abbrev pub numbers_of : Log → List ℕ → List ℕ → Option (ℕ × ℕ)
 numbers_of log first second = option_and_then (λ i. option_map (λ j. (i, j)) (place_of second (names_of log.alarms))) (place_of first (names_of log.alarms))
 
--- the log with a pair of numbers; where there is none, it stays
+-- the log with a pair of numbers; if there is none, it stays
 abbrev pub log_with : Log → Option (ℕ × ℕ) → Log
 log_with log None = log
 log_with log (Some pair) = record log { pairs = with_pair log.pairs pair.0 pair.1 }
@@ -61,7 +61,7 @@ abbrev pub is_new_pair : Log → Option (ℕ × ℕ) → Bool
 is_new_pair log None = false
 is_new_pair log (Some pair) = not (has_pair log.pairs pair.0 pair.1)
 
--- why the log refuses a pair of numbers, if it does; where there is none, an alarm is unknown
+-- why the log refuses a pair of numbers, if it does; if there is none, an alarm is unknown
 abbrev pub refusal_of_pair : Log → Option (ℕ × ℕ) → Option LogRefusal
 refusal_of_pair log None = Some of_log.Unknown
 refusal_of_pair log (Some pair) = before_refusal (length log.alarms) log.pairs pair.0 pair.1

@@ -94,13 +94,13 @@ pub record IsAsked (net : Net) (n budget : ℕ) (old : Stage) (row : Row) (new :
   pub question : row ≡ Ask
   pub told : IsToldBy net n budget old new found
 
--- what it means that a row told this: an addition was made or refused, or a question was answered
+-- what it means that this came of a row: an addition was made or refused, or a question was answered
 abbrev pub TellsOfRow : Net → ℕ → ℕ → Stage → Row → Stage → RowTold → Type 0
 TellsOfRow net n budget old row new Made = IsAdditionMade net n old row new
 TellsOfRow net n budget old row new (Refused refusal) = IsRefused net n old row new refusal
 TellsOfRow net n budget old row new (Answered found) = IsAsked net n budget old row new found
 
--- What a row told, and how far the session has come with it: log and question are those after the row, the question with so many columns more where the row asks. The book has its axioms, is valid and lean, and asks what explains the log.
+-- What came of a row, and how far the session has come with it: log and question are those after the row, the question with some further columns if the row asks. The book has its axioms, is valid and lean, and asks what explains the log.
 pub record IsRowTold (net : Net) (n budget : ℕ) (old : Stage) (row : Row) (new : Stage) (told : RowTold) : Type 0 where
   pub tells : TellsOfRow net n budget old row new told
   pub log : new.log ≡ after_row net n old.log row
@@ -116,7 +116,7 @@ pub record IsLeftUndone (net : Net) (n budget : ℕ) (old : Stage) (row : Row) (
   pub unanswered : IsUnanswered net n budget old new
   pub book : IsSessionBook net n new
 
--- what an addition tells that was made, or refused so; want of memory isn't told
+-- what came of an addition: it was made, or refused for this; running out of memory is handed on
 abbrev pub told_by : {X : Type 0} → Result X SessionRefusal → Result RowTold NoMemory
 told_by (Ok x) = Ok Made
 told_by (Err Double) = Ok (Refused Double)
@@ -129,7 +129,7 @@ told_by (Err Memory) = Err (record {})
 
 -- ---- what comes of all rows
 
--- The rows told these one after another, each where the session had come to by those before it.
+-- This came of the rows one after another, each from where the session had come to by those before it.
 abbrev pub AreRowsTold : Net → ℕ → ℕ → Stage → List Row → Stage → List RowTold → Type 0
 AreRowsTold net n budget old [] new told = (new ≡ old) × (told ≡ [])
 AreRowsTold net n budget old (row ∷ rows) new told =

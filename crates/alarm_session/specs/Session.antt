@@ -118,7 +118,7 @@ pub record IsToldBy (net : Net) (n budget : ℕ) (old new : Stage) (found : Foun
 abbrev pub IsUnanswered : Net → ℕ → ℕ → Stage → Stage → Type 0
 IsUnanswered net n budget old new = (meanings : List (ℕ × Meaning)) × IsOpenAtMost meanings net old.log n budget old.book new.book
 
--- ---- what is always so of the book
+-- ---- what always holds of the book
 
 -- By some meanings, and with some assumptions, the axioms ask what explains the log: they are faithful and drawn.
 pub record Poses (net : Net) (log : Log) (n : ℕ) (book : List BookEntry) : Type 0 where

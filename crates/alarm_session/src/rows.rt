@@ -95,7 +95,7 @@ fn put_row<R: Fn(u32) -> u64>(
     }
 }
 
-// What an addition tells that was made or refused.
+// What came of an addition: it was made or refused.
 fn told_by(answer: Result<(), SessionRefusal>) -> Result<RowTold, Memory>
     ensures { result ≡ told_by answer }
 {

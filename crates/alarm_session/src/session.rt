@@ -144,7 +144,7 @@ impl<'a, R: Fn(u32) -> u64> Session<'a, R> {
 
     /// Carries out a row of a script: adds what it says, or asks what explains the log so far.
     ///
-    /// After want of memory the session goes on.
+    /// If memory runs out, the session can go on.
     pub fn carry_out(&mut self, row: &Row, budget: u64) -> Result<RowTold, Memory>
         requires ranked { IsRanked R.pre R.post self.old.order }
         ensures ranked { IsRanked R.pre R.post self.new.order }

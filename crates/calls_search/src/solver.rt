@@ -97,7 +97,7 @@ fn is_shown(
     }
 }
 
-// Whether a search that left so much of its budget was paid for what it has learnt, and left nothing where it is to be spent.
+// Whether a search that left `left` of its budget paid for what it learnt, and left nothing if the budget is to be spent.
 fn is_paid(book: &Ledger, before: u64, question: &SolverQuestion, left: u64) -> bool {
     let paid = left.saturating_add(learnt_since(book, before)) == question.0;
     paid && (left == 0 || question.3.is_some())

@@ -32,7 +32,7 @@ fn takes<R: Fn(u32) -> u64>(order: &mut Order<R>, var: u32) -> bool
     order.take() == Some(var)
 }
 
-// A step: it grows to so many variables (+), or this variable is put back (<) or taken (>).
+// A step: it grows to this many variables (+), or this variable is put back (<) or taken (>).
 type OrderStep = (char, u32);
 
 fn does<R: Fn(u32) -> u64>(order: &mut Order<R>, step: &OrderStep) -> bool

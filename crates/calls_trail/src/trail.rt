@@ -143,7 +143,7 @@ fn goes(propagator: &mut Propagator, db: &Clauses, vars: u32, step: &TrailStep) 
     }
 }
 
-// Whether all steps can be gone, each until nothing is left to do.
+// Whether all steps can be taken, each until nothing is left to do.
 fn goes_all(propagator: &mut Propagator, db: &Clauses, vars: u32, steps: &[TrailStep]) -> bool
     requires front { IsFront propagator.old.clauses db.now.clauses }
     requires vars { propagator.old.vars ≡ vars }

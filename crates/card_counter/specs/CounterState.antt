@@ -17,11 +17,11 @@ pub record CounterState : Type 0 where
 abbrev pub without_columns : List Lit → CounterState
 without_columns inputs = record { inputs = inputs; columns = []; spare_inputs = 0 }
 
--- the variables of column j, counted from 0: none where there is no such column
+-- the variables of column j, counted from 0: none if there is no such column
 abbrev pub column_at : List (List ℕ) → ℕ → List ℕ
 column_at columns j = slice_index_or columns j []
 
--- the variable of a column at input i, counted from 0, or 0 where there is no such input
+-- the variable of a column at input i, counted from 0, or 0 if there is no such input
 abbrev pub var_at : List ℕ → ℕ → ℕ
 var_at column i = slice_index_or column i 0
 
@@ -94,7 +94,7 @@ counted_clauses input before column i = under (reached_before before i) (negatio
 abbrev pub place_clauses : Lit → Option (List ℕ) → List ℕ → ℕ → List Clause
 place_clauses input before column i = kept_clauses column i ++ counted_clauses input before column i
 
--- input i, counted from 0, or the literal that stands where there is none
+-- input i, counted from 0, or the literal that stands there if there is none
 abbrev pub input_at : List Lit → ℕ → Lit
 input_at inputs i = slice_index_or inputs i no_literal
 

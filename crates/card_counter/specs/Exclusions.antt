@@ -32,7 +32,7 @@ IsNamedExclusion family inputs named = (which : ExclusionClause) × IsExclusionC
 
 -- ---- the same one after another, as loops write them
 
--- the meaning of input i, counted from 0; where there is none, a meaning that stands in its place
+-- the meaning of input i, counted from 0; if there is none, a meaning that stands in its place
 abbrev pub input_meaning : List Meaning → ℕ → Meaning
 input_meaning inputs i = slice_index_or inputs i asked
 

@@ -132,7 +132,7 @@ pub record IsBetween (lo hi b : ℕ) : Type 0 where
   pub high : b < hi
   pub few : b ≤ MOST_COST
 
--- Where it is undecided, it is so at a further conflict: of the question without a bound where no run is known, else within a total between what is refuted and what is known.
+-- If it is undecided, that is at a further conflict: of the question without a bound where no run is known, else within a total between what is refuted and what is known.
 abbrev pub HasConflictAt : CostAsked → List BookEntry → ℕ → Option Priced → Type 0
 HasConflictAt q book lo None = HasCostConflict q None book
 HasConflictAt q book lo (Some priced) = (b : ℕ) × IsBetween lo priced.cost b × HasCostConflict q (Some b) book

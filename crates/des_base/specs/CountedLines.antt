@@ -44,7 +44,7 @@ counted_from comment n bytes = filter (λ line. is_counted comment line.text) (n
 abbrev pub counted_lines : ℕ → List ℕ → List NumberedLine
 counted_lines comment bytes = counted_from comment 1 bytes
 
--- the number of a text's last line, or 1 where it has none
+-- the number of a text's last line, or 1 if it has none
 abbrev pub last_line : List ℕ → ℕ
 last_line bytes = max 1 (length (text_lines bytes))
 

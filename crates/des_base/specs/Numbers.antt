@@ -7,13 +7,13 @@ abbrev pub digits_value : ℕ → List ℕ → Option ℕ
 digits_value n [] = Some n
 digits_value n (c ∷ cs) = if is_ascii_digit c then digits_value (10 * n + (c - 48)) cs else None
 
--- the number that a text spells, where it spells one
+-- the number that a text spells, if it spells one
 abbrev pub number_of : List ℕ → Option ℕ
 number_of [] = None
 number_of (c ∷ []) = digits_value 0 (c ∷ [])
 number_of (c ∷ d ∷ cs) = if c == 48 then None else digits_value 0 (c ∷ d ∷ cs)
 
--- the number, where there is one and it is at most this
+-- the number, if there is one and it is at most this
 abbrev pub up_to : ℕ → Option ℕ → Option ℕ
 up_to most number = option_and_then (λ n. if nat_le n most then Some n else None) number
 

@@ -12,7 +12,7 @@ use Rattle.des_net.specs.Network.{Component, Event, Net, no_component, IsTransOf
 
 -- ---- a component
 
--- a component is refused where one has its name, or where there are as many as there may be
+-- a component is refused if one has its name, or if there are as many as there may be
 abbrev pub component_refusal : Net → List ℕ → Option BuildRefusal
 component_refusal net name =
     if is_some (place_of name net.component_names) then Some Double
@@ -25,7 +25,7 @@ with_component net name = record net { component_names = net.component_names ++ 
 
 -- ---- what is added to one of the components
 
--- the component at a place is changed; where none is there, all stay
+-- the component at a place is changed; if none is there, all stay
 unfoldable pub change_at : ℕ → (Component → Component) → List Component → List Component
 change_at place change components = option_map_or (λ c. slice_set components place (change c)) (slice_get components place) components
 
@@ -35,7 +35,7 @@ change_component place change net = record net { components = change_at place ch
 
 -- ---- a state
 
--- a state is refused where the component has one of its name, where there is no such component, or where it has as many as it may have
+-- a state is refused if the component has one of its name, if there is no such component, or if it has as many as it may have
 unfoldable pub state_refusal : List Component → ℕ → List ℕ → Option BuildRefusal
 state_refusal components comp name = option_map_or (λ c.
     if is_some (place_of name c.state_names) then Some Double
@@ -46,7 +46,7 @@ state_refusal components comp name = option_map_or (λ c.
 abbrev pub with_state : List ℕ → Bool → Component → Component
 with_state name init c = record c { state_names = c.state_names ++ name ∷ []; initial = c.initial ++ init ∷ [] }
 
--- how many states a component has, or none where there is no such component
+-- how many states a component has, or none if there is no such component
 unfoldable pub state_count : List Component → ℕ → ℕ
 state_count components comp = option_map_or (λ c. length c.state_names) (slice_get components comp) 0
 
@@ -56,7 +56,7 @@ state_count components comp = option_map_or (λ c. length c.state_names) (slice_
 abbrev pub action_place : List (List ℕ) → List ℕ → ℕ
 action_place actions action = unwrap_or (place_of action actions) (length actions)
 
--- the actions, and this one last where it is new
+-- the actions, and this one last if it is new
 abbrev pub with_action : List ℕ → List (List ℕ) → List (List ℕ)
 with_action action actions = if is_some (place_of action actions) then actions else actions ++ action ∷ []
 
@@ -72,7 +72,7 @@ has_trans c from action to = option_map_or (λ a. list_any (is_trans from a to) 
 unfoldable pub trans_count : List Component → ℕ
 trans_count components = sum_by (λ c. length c.transitions) components
 
--- a transition is refused where the component has it, where there is no such component or state, or where the network has as many as it may have
+-- a transition is refused if the component has it, if there is no such component or state, or if the network has as many as it may have
 unfoldable pub trans_refusal : List Component → ℕ → ℕ → List ℕ → ℕ → Option BuildRefusal
 trans_refusal components comp from action to = option_map_or (λ c.
     if has_trans c from action to then Some Double
@@ -80,7 +80,7 @@ trans_refusal components comp from action to = option_map_or (λ c.
     if nat_le most_transitions (trans_count components) then Some Limit else None
     else Some Unknown) (slice_get components comp) (Some Unknown)
 
--- it is added last, and its action too where that is new
+-- it is added last, and its action too if that is new
 abbrev pub with_trans : ℕ → List ℕ → ℕ → Component → Component
 with_trans from action to c = record c {
   transitions = c.transitions ++ record { from = from; action = action_place c.action_names action; to = to } ∷ [];
@@ -98,7 +98,7 @@ repeats (p ∷ ps) = list_any (λ q. q.comp == p.comp) ps || repeats ps
 unfoldable pub is_known : List Component → Part → Bool
 is_known components p = option_map_or (λ c. nat_lt p.action (length c.action_names)) (slice_get components p.comp) false
 
--- an event is refused where one has its name or two parts have one component, where a component or an action isn't there, or where there are too many events or parts
+-- an event is refused if one has its name or two parts have one component, if a component or an action isn't there, or if there are too many events or parts
 unfoldable pub event_refusal : Net → List ℕ → List Part → Option BuildRefusal
 event_refusal net name parts =
     if is_some (place_of name net.event_names) || repeats parts then Some Double

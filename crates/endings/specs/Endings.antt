@@ -68,7 +68,7 @@ text_of_stop NoFault = codes "NOFAULT\n"
 text_of_stop (Large size) = line_with_number (codes "LARGE ") size
 text_of_stop Memory = []
 
--- the texts of a stop: its one text, and none where memory is wanting
+-- the texts of a stop: its one text, and none if memory runs out
 abbrev pub texts_of_stop : Stop → List (List ℕ)
 texts_of_stop Memory = []
 texts_of_stop stop = text_of_stop stop ∷ []

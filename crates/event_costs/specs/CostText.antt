@@ -42,7 +42,7 @@ fault_event_of net name = option_and_then (λ e. if is_fault net e then Some e e
 abbrev pub cost_number : List ℕ → Option ℕ
 cost_number word = option_and_then (λ c. if nat_le 1 c then Some c else None) (number_up_to MOST_COST word)
 
--- an event with its cost, where both are known
+-- an event with its cost, if both are known
 abbrev pub priced : Option ℕ → Option ℕ → Option Price
 priced None cost = None
 priced (Some e) None = None

@@ -25,7 +25,7 @@ asked_for net log n k e (with_event literal) word order = ExplainsWithin net log
 
 -- ---- meanings
 
--- A meaning of a question, or that the event happens in some step: for each literal that was made for this, which the number tells from others.
+-- A meaning of a question, or that the event happens in some step: for each literal that was made for this, which the number distinguishes.
 pub data VerdictMeaning : Type 0 where
   of_question : Meaning → VerdictMeaning
   occurs : (event literal : ℕ) → VerdictMeaning

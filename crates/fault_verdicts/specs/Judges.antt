@@ -71,7 +71,7 @@ pub record KeepsMatter {R : Type 0} (old new : JudgeState R) : Type 0 where
 abbrev pub matter_of : {R : Type 0} → Net → Log → Best → ℕ → Carried R → Matter
 matter_of net log best budget kept = record { net = net; log = log; steps = kept.parts.step.steps; best = best; budget = budget }
 
--- The parts are those of the question, within so many steps as it may have. The run that is known is best, with at most 255 faults, and so are the others that were found.
+-- The parts are those of the question, within as many steps as it may have. The run that is known is best, with at most 255 faults, and so are the others that were found.
 pub record IsJudgeOf {R : Type 0} (net : Net) (log : Log) (best : Best) (kept : Carried R) : Type 0 where
   pub belong : BelongTo net log kept.parts
   pub steps : kept.parts.step.steps ≤ MOST_STEPS
@@ -79,7 +79,7 @@ pub record IsJudgeOf {R : Type 0} (net : Net) (log : Log) (best : Best) (kept : 
   pub known : IsBestRun net log kept.parts.step.steps best.faults best.run
   pub others : AllByRecursion (IsBestRun net log kept.parts.step.steps best.faults) kept.others.items
 
--- It is so, and parts and book are ready for the next question.
+-- This holds, and parts and book are ready for the next question.
 pub record IsReadyToJudge {R : Type 0} (may : R → ℕ → Type 0) (gives : R → ℕ → ℕ → Type 0) (net : Net) (log : Log) (best : Best) (kept : Carried R) : Type 0 where
   pub is_of : IsJudgeOf net log best kept
   pub ready : AreReadyForVerdicts may gives kept.parts kept.book.entries

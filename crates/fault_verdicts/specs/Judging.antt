@@ -55,7 +55,7 @@ at_most_of (suc m) k = Some k
 abbrev pub bound_for : CounterState → ℕ → Option ℕ
 bound_for counter k = at_most_of (length counter.inputs) k
 
--- What is assumed of the event: that it happens in no step, where the known run has it, and else the literal that was made for it.
+-- What is assumed of the event: that it happens in no step, if the known run has it, and else the literal that was made for it.
 abbrev pub IsAbout : Bool → List (ℕ × ℕ) → Grid → ℕ → List Lit → Type 0
 IsAbout true made grid e further = further ≡ no_step_literals grid e
 IsAbout false made grid e further = (var : ℕ) × Contains made (var, e) × (further ≡ positive var ∷ [])

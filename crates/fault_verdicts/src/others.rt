@@ -37,7 +37,7 @@ pub fn judge_kept<R: Fn(u32) -> u64>(
     }
 }
 
-// A best run that was found before and differs from the known one in this event, where there is one.
+// A best run that was found before and differs from the known one in this event, if there is one.
 fn shown<R>(about: About<'_>, kept: &Carried<R>, event: EventId) -> Result<Option<Run>, Memory>
     requires { IsJudgeOf about.net.now about.log.now about.best.now kept.now }
     ensures { IfOk result (λ shown. IfSome shown (IsPossibleFound about.entry.net.now about.entry.log.now kept.now.parts.step.steps about.entry.best.now.faults event about.entry.best.now.run)) }

@@ -21,7 +21,7 @@ use Rattle.run_decode.specs.QuestionAxioms.{BuiltQuestion, question_built}
 abbrev pub counted_bound : CounterState → Option ℕ → Option ℕ
 counted_bound counter bound = if nat_eq (length counter.inputs) 0 then None else bound
 
--- the bound, where there is a fault to count
+-- the bound, if there is a fault to count
 abbrev pub bound_within : Net → Log → ℕ → Option ℕ → Option ℕ
 bound_within net log n bound = counted_bound (question_built net log n 0).counter bound
 

@@ -75,7 +75,7 @@ pub record IsLastFinal (book : List BookEntry) (last : ℕ) : Type 0 where
   pub none : list_any is_final later ≡ false
   pub numbered : last ≡ length (clauses_of before) + 1
 
--- the counter has the column for the bound, where there is a fault to count
+-- the counter has the column for the bound, if there is a fault to count
 abbrev pub HasBoundColumn : CounterState → Option ℕ → Type 0
 HasBoundColumn counter bound = IfSome (counted_bound counter bound) (λ k. k < length counter.columns)
 
@@ -85,7 +85,7 @@ pub record HasEvidence {R : Type 0} (net : Net) (log : Log) (parts : Parts R) (b
   pub whole : book ≡ map axiomatic (question_axioms net log parts.step.steps 0) ++ mark 0 ∷ since ++ mark 1 ∷ []
   pub evidence : IsEvidence (meanings_of_parts parts) (question_built net log parts.step.steps 0) since net log parts.step.steps bound
 
--- for the bound that what was found refutes: one less than the least number, none where nothing explains, and 255 where more are needed
+-- for the bound that what was found refutes: one less than the least number, none if nothing explains, and 255 if more are needed
 abbrev pub HasEvidenceFor : {R : Type 0} → Net → Log → Parts R → List BookEntry → Found → Type 0
 HasEvidenceFor net log parts book (Explained best) = (best.faults ≤ 255) × ((k : ℕ) → best.faults ≡ suc k → HasEvidence net log parts book (Some k))
 HasEvidenceFor net log parts book Absent = HasEvidence net log parts book None

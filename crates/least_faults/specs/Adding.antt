@@ -25,7 +25,7 @@ abbrev pub is_doubted : Addition → Bool
 is_doubted (alarm_added new) = new.doubtful
 is_doubted (pair_added i j) = false
 
--- how many inputs the counter gets with an alarm: one where it is doubtful, else none
+-- how many inputs the counter gets with an alarm: one if it is doubtful, else none
 abbrev pub input_count : Bool → ℕ
 input_count doubtful = if doubtful then 1 else 0
 

@@ -79,7 +79,7 @@ abbrev pub asked_last : ℕ → Option Best → Option ℕ
 asked_last lo None = None
 asked_last lo (Some run) = Some lo
 
--- Where it is undecided, it is so at a further conflict.
+-- If it is undecided, that is at a further conflict.
 abbrev pub HasConflictFor : List (ℕ × Meaning) → List BookEntry → Net → Log → ℕ → Found → Type 0
 HasConflictFor meanings book net log n (Explained best) = ⊤
 HasConflictFor meanings book net log n Absent = ⊤

@@ -107,7 +107,7 @@ pub record IsSolvedWithin {R : Type 0} (before : CounterState) (parts : Parts R)
   pub put : HasPut mid new answer
   pub says : IsAnswer parts.solver.assignment new assumed budget_new answer
 
--- Each final entry negates assumptions with the bound alone, and there is at most one, and none where nothing is refuted. Without a bound learnt entries alone are put then.
+-- Each final entry negates assumptions with the bound alone, and there is at most one, and none if nothing is refuted. Without a bound learnt entries alone are put then.
 pub record ArePut (code : CodedLog) (counter : CounterState) (bound : Option ℕ) (since : List BookEntry) (asked : Asked) : Type 0 where
   pub finals : (clause : Clause) (hints : List ℕ) → Contains since (final clause hints) → (assumed : List Lit) × AreAssumptions code counter bound assumed × NegatesOnly assumed clause
   pub few : count_by is_final since ≤ 1

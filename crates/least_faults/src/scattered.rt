@@ -24,7 +24,7 @@ struct Link {
     number: u32,
 }
 
-// Advises the solver on what it searches within bounds, if alarms are scattered. Where memory is wanting it goes on without.
+// Advises the solver on what it searches within bounds, if alarms are scattered. If memory runs out, it goes on without advice.
 pub fn advise_within<R: Fn(u32) -> u64>(question: Question<'_>, parts: &mut Parts<R>)
     requires { BelongTo question.net.now question.log.now parts.old }
     ensures { parts.new ≡ parts.old }

@@ -38,7 +38,7 @@ alarm_clauses net log n new =
     ++ not_done_first (length log.alarms) ∷ done_if_asked (length log.alarms)
     ∷ flat_map (done_clauses (length log.alarms) (taken_events net log new)) (numbers_below n)
 
--- where it is doubtful, that none of its matches goes with its being false
+-- if it is doubtful, that none of its matches goes with its being false
 abbrev pub real_clauses : Bool → ℕ → List ℕ → ℕ → List LogClause
 real_clauses false i events n = []
 real_clauses true i events n = flat_map (λ e. map (λ t. match_is_real i e t) (numbers_below n)) events

@@ -41,7 +41,7 @@ pub data LogClause : Type 0 where
   done_if_asked : (i : ℕ) → LogClause
   before_if_asked : (i j t : ℕ) → LogClause
 
--- these, or that alarm i is false where it is doubtful
+-- these, or that alarm i is false if it is doubtful
 abbrev pub or_false : Log → ℕ → List NamedLiteral → List NamedLiteral
 or_false log i literals = if is_doubtful log i then yes (dropped i) ∷ literals else literals
 

@@ -38,10 +38,10 @@ pub record MakesLogTrue (assignment : ℕ → Bool) (written : List Clause) (ass
 
 -- by these meanings clauses and guards say exactly which steps linearise the log, and the clauses alone allow whatever events happen
 pub record IsExactLogCode (net : Net) (log : Log) (n : ℕ) (meanings : List (ℕ × Meaning)) (written : List Clause) (assumed : List Lit) : Type 0 where
-  -- Where clauses and guards are true, the sets of the steps, arranged by any order of the alarms that keeps the pairs, linearise the log.
+  -- If clauses and guards are true, the sets of the steps, arranged by any order of the alarms that keeps the pairs, linearise the log.
   pub sound : (assignment : ℕ → Bool) (pieces : List (List ℕ)) (alarms : List ℕ) → IsValidLog log → ListsOnce (length log.alarms) alarms → Keeps alarms log.pairs →
       AreSteps net n (value_by meanings assignment) pieces → MakesLogTrue assignment written assumed → IsArranged net log n (value_by meanings assignment) alarms pieces
-  -- Where the sets of the steps in some order linearise the log, clauses and guards can be made true by a change of variables of the log alone, with as many false alarms.
+  -- If the sets of the steps in some order linearise the log, clauses and guards can be made true by a change of variables of the log alone, with as many false alarms.
   pub complete : (given : ℕ → Bool) (pieces : List (List ℕ)) (order : List Entry) → AreSteps net n (value_by meanings given) pieces → Linearises net log (joined pieces) order →
       (assignment : ℕ → Bool) × DifferInLogVariables meanings given assignment × MakesLogTrue assignment written assumed × HasFalse log (value_by meanings assignment) order
   -- True alarms and events that happen go together one by one.

@@ -29,7 +29,7 @@ AreAmong meanings more = (entry : ℕ × Meaning) → Contains meanings entry �
 abbrev pub ReadingsStay : Type 0
 ReadingsStay = (meanings more : List (ℕ × Meaning)) (clause : Clause) (named : List NamedLiteral) → HasEachOnce more → AreAmong meanings more → ReadsAs meanings clause named → ReadsAs more clause named
 
--- and clauses that are those of the steps or of a log are so by more.
+-- and clauses that are those of the steps or of a log still are by more.
 pub record CodesStayBy (meanings more : List (ℕ × Meaning)) (clauses : List Clause) : Type 0 where
   pub steps : (net : Net) (n : ℕ) → IsCode meanings (IsNamedStep net n) clauses → IsCode more (IsNamedStep net n) clauses
   pub log : (net : Net) (log : Log) (n : ℕ) → IsCode meanings (IsNamedLog net log n) clauses → IsCode more (IsNamedLog net log n) clauses

@@ -27,13 +27,13 @@ pub record IsArranged (net : Net) (log : Log) (n : ℕ) (value : Meaning → Boo
   pub linear : Linearises net log (joined (arranged net log value alarms 0 pieces)) (whole_order log value alarms pieces)
   pub false_alarms : HasFalse log value (whole_order log value alarms pieces)
 
--- Where clauses and guards are true, the sets of the steps, arranged by any order of the alarms that keeps the pairs, linearise the log.
+-- If clauses and guards are true, the sets of the steps, arranged by any order of the alarms that keeps the pairs, linearise the log.
 abbrev pub LogIsSound : Type 0
 LogIsSound = (net : Net) (log : Log) (n : ℕ) (value : Meaning → Bool) (pieces : List (List ℕ)) (alarms : List ℕ) →
     IsValidLog log → ListsOnce (length log.alarms) alarms → Keeps alarms log.pairs →
     AreSteps net n value pieces → LogClausesHold net log n value → GuardsHold net log value → IsArranged net log n value alarms pieces
 
--- Where the sets of the steps in some order linearise the log, the meanings of the log have a truth that makes clauses and guards true, with as many false alarms, whatever all other meanings are.
+-- If the sets of the steps in some order linearise the log, the meanings of the log have a truth that makes clauses and guards true, with as many false alarms, whatever all other meanings are.
 abbrev pub LogIsComplete : Type 0
 LogIsComplete = (net : Net) (log : Log) (n : ℕ) (given : Meaning → Bool) (pieces : List (List ℕ)) (order : List Entry) →
     AreSteps net n given pieces → Linearises net log (joined pieces) order →

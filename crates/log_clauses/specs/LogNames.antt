@@ -50,7 +50,7 @@ alarm_meanings net log n new =
 abbrev pub match_chains : ℕ → ℕ → ℕ → List Meaning
 match_chains n i m = flat_map (λ t. chain_meanings (of_matches i (suc t)) m) (numbers_below n)
 
--- where it is doubtful, whether it is false
+-- if it is doubtful, whether it is false
 abbrev pub false_meanings : Bool → ℕ → List Meaning
 false_meanings doubtful i = if doubtful then dropped i ∷ [] else []
 
@@ -110,7 +110,7 @@ abbrev pub LogMeaningsGrow : Type 0
 LogMeaningsGrow = (net : Net) (log : Log) (n first : ℕ) (addition : Addition) (meanings : List (ℕ × Meaning)) → AreLogMeanings net log n first meanings →
     AreLogMeanings net (with_addition log addition) n (first + length (added_meanings net log n addition)) (with_added net log n addition meanings first)
 
--- Where the meanings of a new alarm stand: a link of each event that it may stand for, one after another, then when it is done, then the chains over its matches, and at the end, where it is doubtful, whether it is false.
+-- Where the meanings of a new alarm stand: a link of each event that it may stand for, one after another, then when it is done, then the chains over its matches, and at the end, if it is doubtful, whether it is false.
 pub record HasAlarmPlaces (net : Net) (log : Log) (n first : ℕ) (new : Alarm) (meanings : List (ℕ × Meaning)) : Type 0 where
   pub closing : (p e : ℕ) → slice_get (taken_events net log new) p ≡ Some e →
       meaning_of meanings (first + p * (1 + n * 2)) ≡ Some (closed e (suc (length (chain net log e))))

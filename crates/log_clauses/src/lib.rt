@@ -80,7 +80,7 @@ pub fn readings_stay()
     ensures { ReadingsStay }
 {}
 
-/// The code of steps and that of a log are so by more meanings.
+/// The code of steps and that of a log stay code by more meanings.
 pub fn codes_stay()
     ensures { CodesStay }
 {}
@@ -164,7 +164,7 @@ pub fn log_code_grows()
     ensures { LogCodeGrows }
 {}
 
-/// What has grown so is with its guards a code of the log.
+/// What has grown like this is, with its guards, a code of the log.
 pub fn log_codes_are()
     ensures { LogCodesAre }
 {}

@@ -29,7 +29,7 @@ recorded_alarms records = filter_map recorded_alarm records
 abbrev pub ids_of : List Record → List (List ℕ)
 ids_of records = names_of (recorded_alarms records)
 
--- two alarms by the places of their ids, where both are known
+-- two alarms by the places of their ids, if both are known
 abbrev pub recorded_pair : List (List ℕ) → Record → Option (ℕ × ℕ)
 recorded_pair ids (alarm maybe id labels) = None
 recorded_pair ids (before first second) = option_and_then (λ i. option_map (λ j. (i, j)) (place_of second ids)) (place_of first ids)

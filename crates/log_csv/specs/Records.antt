@@ -25,7 +25,7 @@ is_empty_field field = length field == 0
 abbrev pub are_empty : List (List ℕ) → Bool
 are_empty fields = list_all is_empty_field fields
 
--- the labels in a field: its pieces between bars, and none where it is empty
+-- the labels in a field: its pieces between bars, and none if it is empty
 abbrev pub labels_in : List ℕ → List (List ℕ)
 labels_in field = if is_empty_field field then [] else slice_split (λ byte. byte == 124) field
 

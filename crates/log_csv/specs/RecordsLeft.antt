@@ -15,7 +15,7 @@ text_left rdr = source_of (λ (s : Bor (List ℕ)). Some s.now) rdr
 abbrev pub records_in : State → List ℕ → List (List (List ℕ))
 records_in state text = records_from default_config (length text + 1) state text
 
--- the records that the reader has left, each as its fields: none where it has failed
+-- the records that the reader has left, each as its fields: none if it has failed
 abbrev pub records_left : Reader (Bor (List ℕ)) → List (List (List ℕ))
 records_left rdr = option_map_or (λ text. records_in (reader_state rdr) text) (text_left rdr) []
 

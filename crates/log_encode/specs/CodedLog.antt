@@ -73,7 +73,7 @@ code_after code addition first = record code {
   vars = first + addition_width code addition;
 }
 
--- ---- what is always so
+-- ---- what always holds
 
 -- The grid is that of the network's events, made before. Exactly the meanings of the log have variables, each one, and no variable stands twice; they are made after those of the grid. Each alarm has its first variable, and alarms are no more than variables.
 pub record IsCodedLog (code : CodedLog) : Type 0 where

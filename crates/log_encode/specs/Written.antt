@@ -1,4 +1,4 @@
--- The clauses that are written for a log, as lists over variables. What they say by name is told in `log_clauses`.
+-- The clauses that are written for a log, as lists over variables. What they say by name stands in `log_clauses`.
 use Rattle.std.specs.Prelude.{ℕ, suc, ◌+◌, ◌*◌, List, [], ◌∷◌, ◌++◌, map, flat_map, Option, Some, None, if◌then◌else◌, ◌==◌, ◌<◌, ◌≤◌, IfSome}
 use Rattle.des_base.specs.Lists.{numbers_below}
 use Rattle.des_base.specs.declared.TheConstants.{VAR_LIMIT}
@@ -28,7 +28,7 @@ abbrev pub link_from : ℕ → List Taken → ℕ → Option ℕ
 link_from link [] e = None
 link_from link (taken ∷ takes) e = if taken.event == e then Some link else link_from (suc link) takes e
 
--- the link of the event, counted from 0, or none where the alarm cannot stand for it
+-- the link of the event, counted from 0, or none if the alarm cannot stand for it
 abbrev pub link_of : List Taken → ℕ → Option ℕ
 link_of takes e = link_from 0 takes e
 
@@ -83,7 +83,7 @@ links_written grid vars link (taken ∷ takes) = steps_of_link grid vars link ta
 
 -- ---- whether the alarm is matched
 
--- that it is false, where it is doubtful
+-- that it is false, if it is doubtful
 abbrev pub dropped_written : AlarmVars → List Lit
 dropped_written vars = if vars.doubtful then positive (dropped_variable vars) ∷ [] else []
 
@@ -96,7 +96,7 @@ abbrev pub step_written : AlarmVars → ℕ → List Clause
 step_written vars t = (negative (done_variable vars t) ∷ positive (done_variable vars (suc t)) ∷ [])
     ∷ (negative (done_variable vars (suc t)) ∷ positive (done_variable vars t) ∷ (dropped_written vars ++ matches_at vars t)) ∷ exclusion_clauses (matches_at vars t) (chain_variable vars t)
 
--- at the start the alarm isn't done unless it is false, and at the end it is done where the log is asked for
+-- at the start the alarm isn't done unless it is false, and at the end it is done if the log is asked for
 abbrev pub ends_written : ℕ → AlarmVars → List Clause
 ends_written asked vars = (negative (done_variable vars 0) ∷ dropped_written vars) ∷ (negative asked ∷ positive (done_variable vars vars.steps) ∷ []) ∷ []
 
@@ -131,7 +131,7 @@ first_ends var (e ∷ events) = record { event = e; closed = var; last = None } 
 abbrev pub guards_of : ℕ → List ChainEnd → List Lit
 guards_of asked ends = positive asked ∷ map (λ (end : ChainEnd). positive end.closed) ends
 
--- where the log is asked for, the first alarm, whose done variables begin here, is done no later than the second: for each number of steps below k
+-- if the log is asked for, the first alarm, whose done variables begin here, is done no later than the second: for each number of steps below k
 abbrev pub pair_written_below : ℕ → ℕ → ℕ → ℕ → List Clause
 pair_written_below asked first second k = map (λ t. negative asked ∷ negative (second + t) ∷ positive (first + t) ∷ []) (numbers_below k)
 

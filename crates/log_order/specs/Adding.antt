@@ -13,7 +13,7 @@ names_of alarms = map (λ alarm. alarm.name) alarms
 
 -- ---- an alarm
 
--- an alarm is refused where one has its name, where no label is given, and where there are as many as there may be or too many labels are given
+-- an alarm is refused if one has its name, if no label is given, or if there are as many as there may be or too many labels are given
 unfoldable pub alarm_refusal : Log → List ℕ → List (List ℕ) → Option LogRefusal
 alarm_refusal log name labels =
     if is_some (place_of name (names_of log.alarms)) then Some Double
@@ -21,11 +21,11 @@ alarm_refusal log name labels =
     else if nat_le MOST_ALARMS (length log.alarms) || nat_lt MOST_LABELS (length labels) then Some Limit
     else None
 
--- the texts, and this one last where it isn't there
+-- the texts, and this one last if it isn't there
 abbrev pub with_text : List (List ℕ) → List ℕ → List (List ℕ)
 with_text texts text = if list_any (bytes_eq text) texts then texts else texts ++ text ∷ []
 
--- and each of the others, where it isn't there yet
+-- and each of the others, if it isn't there yet
 abbrev pub with_texts : List (List ℕ) → List (List ℕ) → List (List ℕ)
 with_texts texts [] = texts
 with_texts texts (other ∷ others) = with_texts (with_text texts other) others
@@ -36,7 +36,7 @@ with_alarm log name labels doubtful = record log { alarms = log.alarms ++ an_ala
 
 -- ---- a pair
 
--- a pair is refused where an alarm isn't there, where it closes a cycle, and where it is new and there are as many as there may be
+-- a pair is refused if an alarm isn't there, if it closes a cycle, or if it is new and there are as many as there may be
 unfoldable pub before_refusal : ℕ → List (ℕ × ℕ) → ℕ → ℕ → Option LogRefusal
 before_refusal alarms pairs first second =
     if nat_lt first alarms && nat_lt second alarms then
@@ -45,7 +45,7 @@ before_refusal alarms pairs first second =
     else None
     else Some Unknown
 
--- it is added last where it is new
+-- it is added last if it is new
 abbrev pub with_pair : List (ℕ × ℕ) → ℕ → ℕ → List (ℕ × ℕ)
 with_pair pairs first second = if has_pair pairs first second then pairs else pairs ++ (first, second) ∷ []
 

@@ -26,7 +26,7 @@ a_log alarms pairs = record { alarms = alarms; pairs = pairs }
 abbrev pub no_log : Log
 no_log = a_log [] []
 
--- the id of alarm i, or the empty text where there is none
+-- the id of alarm i, or the empty text if there is none
 abbrev pub id_of : List Alarm → ℕ → List ℕ
 id_of alarms i = unwrap_or (option_map (λ alarm. alarm.name) (slice_get alarms i)) []
 
@@ -46,7 +46,7 @@ pub record ListsOnce (m : ℕ) (order : List ℕ) : Type 0 where
   pub each : (i : ℕ) → i < m → Contains order i
   pub once : EachPair (λ i j. i ≢ j) order
 
--- where i stands in the list first, or the length of the list where it doesn't
+-- where i stands in the list first, or the length of the list if it doesn't
 abbrev pub place_in : List ℕ → ℕ → ℕ
 place_in order i = position_or_len (λ j. j == i) order
 

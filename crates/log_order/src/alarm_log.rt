@@ -145,7 +145,7 @@ impl AlarmLog {
         None
     }
 
-    /// Adds an alarm, certain or doubtful, and answers its number. A repeated label counts once, and keeps its first place.
+    /// Adds an alarm, certain or doubtful, and returns its number. A repeated label counts once, and keeps its first place.
     pub fn add(
         &mut self,
         id: Name,
@@ -163,7 +163,7 @@ impl AlarmLog {
         }
     }
 
-    /// Adds a certain alarm, and answers its number.
+    /// Adds a certain alarm, and returns its number.
     pub fn add_alarm(&mut self, id: Name, labels: &[Name]) -> Result<u32, LogRefusal>
         ensures refused { SucceedsUnless (alarm_refusal self.old id labels.now) LogRefusal.Memory result }
         ensures ok { OnOk result (self.new ≡ with_alarm self.old id labels.now false) }
@@ -173,7 +173,7 @@ impl AlarmLog {
         self.add(id, labels, Certainty::Certain)
     }
 
-    /// Adds a doubtful alarm, which is perhaps false, and answers its number.
+    /// Adds a doubtful alarm, which is perhaps false, and returns its number.
     pub fn add_maybe(&mut self, id: Name, labels: &[Name]) -> Result<u32, LogRefusal>
         ensures refused { SucceedsUnless (alarm_refusal self.old id labels.now) LogRefusal.Memory result }
         ensures ok { OnOk result (self.new ≡ with_alarm self.old id labels.now true) }

@@ -18,7 +18,7 @@ unless (Some refusal) net = None
 abbrev pub last_place : Net → ℕ
 last_place net = length net.components - 1
 
--- the names of the states of the component that was begun last, or none where there is no component
+-- the names of the states of the component that was begun last, or none if there is no component
 abbrev pub last_states : Net → List (List ℕ)
 last_states net = (component_at net (last_place net)).state_names
 
@@ -32,7 +32,7 @@ part_of net part =
 abbrev pub parts_by_name : Net → List NamedPart → Option (List Part)
 parts_by_name net parts = all_some (map (part_of net) parts)
 
--- the network with a transition of its last component, between states at these places, where both are there and the builder accepts it
+-- the network with a transition of its last component, between states at these places, if both are there and the builder accepts it
 abbrev pub grown_by_transition : Net → List ℕ → Option ℕ → Option ℕ → Option Net
 grown_by_transition net action None to = None
 grown_by_transition net action (Some from) None = None

@@ -44,7 +44,7 @@ ReadsParts tokens (Err Shape) = parts_of_tokens tokens ≡ None
 ReadsParts tokens (Err Memory) = ⊤
 ReadsParts tokens (Err refusal) = ⊥
 
--- the component that was begun last, where there is one
+-- the component that was begun last, if there is one
 abbrev pub IsCurrent : Net → Option ℕ → Type 0
 IsCurrent net None = length net.components ≡ 0
 IsCurrent net (Some comp) = comp + 1 ≡ length net.components

@@ -39,7 +39,7 @@ last_lines [] = []
 last_lines (section ∷ []) = section.lines
 last_lines (section ∷ next ∷ more) = last_lines (next ∷ more)
 
--- the lines behind the last `component` line, or none where there is no such line
+-- the lines behind the last `component` line, or none if there is no such line
 abbrev pub current : List ModelLine → List ModelLine
 current lines = last_lines (sections lines)
 
@@ -107,7 +107,7 @@ each_once known (text ∷ texts) = each_once (if is_some (place_of text known) t
 abbrev pub actions_in : List ModelLine → List (List ℕ)
 actions_in lines = each_once [] (map (λ t. t.action) (transitions_in lines))
 
--- the number of a name: its place in the list, or the list's length where it isn't there
+-- the number of a name: its place in the list, or the list's length if it isn't there
 abbrev pub number : List (List ℕ) → List ℕ → ℕ
 number names text = unwrap_or (place_of text names) (length names)
 

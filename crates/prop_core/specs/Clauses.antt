@@ -24,7 +24,7 @@ literal_true value l = beq (value l.var) l.positive
 abbrev pub clause_true : (ℕ → Bool) → Clause → Bool
 clause_true value clause = list_any (literal_true value) clause
 
--- the assignment makes each clause true; where there are none, each assignment does
+-- the assignment makes each clause true; if there are none, each assignment does
 abbrev pub AllClausesTrue : (ℕ → Bool) → List Clause → Type 0
 AllClausesTrue value clauses = AllByRecursion (λ clause. IsTrue (clause_true value clause)) clauses
 

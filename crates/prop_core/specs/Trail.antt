@@ -32,7 +32,7 @@ all_quiet taken clauses = list_all (λ clause. is_quiet (standing taken clause))
 abbrev pub is_forced_by : List Lit → Lit → Clause → Bool
 is_forced_by taken l clause = list_any (same_literal l) clause && list_all (λ k. same_literal l k || is_false taken k) clause
 
--- a literal with its reason: the clause that forced it, or none where it was decided
+-- a literal with its reason: the clause that forced it, or none if it was decided
 pub record PlacedLiteral : Type 0 where
   pub literal : Lit
   pub reason : Option Clause

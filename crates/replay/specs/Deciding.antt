@@ -34,6 +34,6 @@ linearises net log word order =
 abbrev pub explains : Net → Log → ℕ → List ℕ → List Entry → Bool
 explains net log n word order = can_run net word && nat_le (need net word) n && linearises net log word order
 
--- the test tells what explains
+-- the test is right: it passes exactly what explains
 abbrev pub ExplainsDecides : Type 0
 ExplainsDecides = (net : Net) (log : Log) (n : ℕ) (word : List ℕ) (order : List Entry) → IsTrue (explains net log n word order) ↔ Explains net log n word order

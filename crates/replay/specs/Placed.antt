@@ -13,7 +13,7 @@ pub record Placed : Type 0 where
 abbrev pub none_placed : ℕ → Placed
 none_placed alarms = record { alarms = alarms; order = [] }
 
--- the place of an alarm, where it has one
+-- the place of an alarm, if it has one
 abbrev pub place_of_alarm : List ℕ → ℕ → Option ℕ
 place_of_alarm order alarm = if is_in order alarm then Some (place_in order alarm) else None
 

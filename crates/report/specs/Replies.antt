@@ -57,7 +57,7 @@ text_of_refused number = line_with_number (codes "REFUSED ") number
 
 -- ---- runs
 
--- a space and the name of an alarm, where there is one
+-- a space and the name of an alarm, if there is one
 abbrev pub text_of_alarm : Option (List ℕ) → List ℕ
 text_of_alarm (Some name) = 32 ∷ name
 text_of_alarm None = []

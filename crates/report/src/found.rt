@@ -1,4 +1,4 @@
-// The text of what is found of a log.
+// The text of what is found for a log.
 ghost use Rattle.std.specs.Prelude.{◌≡◌, ◌<◌, ◌++◌, All, length, IfOk, IfSome, OnErr, OnOk};
 ghost use Rattle.replay.specs.Traced.{word_of};
 ghost use Rattle.des_base.specs.Lists.{Extends};
@@ -35,7 +35,7 @@ pub fn found_text(alloc: Global, net: &Network, n: u32, found: &Found) -> Result
     Ok(text)
 }
 
-// The same, but where memory is wanting some of it may be there.
+// The same, but if memory runs out some of it may be there.
 fn push_found(found: &Found, net: &Network, n: u32, out: &mut Vec<u8>) -> Result<(), Memory>
     requires { EventsKnown net.now found.now }
     ensures ok { OnOk result (out.new.items ≡ out.old.items ++ text_of_found net.now n found.now) }

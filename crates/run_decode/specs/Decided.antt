@@ -33,7 +33,7 @@ abbrev pub FaithfulDecides : Type 0
 FaithfulDecides = (net : Net) (log : Log) (n : ℕ) (bound : Option ℕ) (clauses : List Clause) (assumed : List Lit) →
     IsFaithful clauses assumed net log n bound → AreUnsatisfiable clauses assumed → Decides net log n bound
 
--- and so it is by a clause of negated assumptions that its clauses entail.
+-- and a clause of negated assumptions that its clauses entail decides it too.
 abbrev pub RefutedIsDecided : Type 0
 RefutedIsDecided = (net : Net) (log : Log) (n : ℕ) (bound : Option ℕ) (clauses : List Clause) (assumed : List Lit) (clause : Clause) →
     IsFaithful clauses assumed net log n bound → Entails clauses clause → NegatesOnly assumed clause → Decides net log n bound

@@ -41,6 +41,6 @@ DecodedExplains = (net : Net) (log : Log) (n : ℕ) (meanings : List (ℕ × Mea
     IsNetwork net → IsUnboundedQuestion net log n meanings stepped written assumed → IsValidLog log → ListsOnce (length log.alarms) alarms → Keeps alarms log.pairs →
     MakesQuestionTrue assignment stepped written assumed → GivesExplanation net log n meanings assignment alarms
 
--- Literals that are the inputs of the counter by some of the meanings are so by all.
+-- Literals that are the inputs of the counter by some of the meanings still are by all.
 abbrev pub FaultLiteralsStay : Type 0
 FaultLiteralsStay = (own meanings : List (ℕ × Meaning)) (net : Net) (log : Log) (n : ℕ) (inputs : List Lit) → HasEachOnce meanings → AreAmong own meanings → AreFaultLiterals own net log n inputs → AreFaultLiterals meanings net log n inputs

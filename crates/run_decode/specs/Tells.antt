@@ -19,7 +19,7 @@ use Rattle.run_decode.specs.Question.{Asks}
 abbrev pub Property : Type 1
 Property = List ℕ → List Entry → Type 0
 
--- Just where some word with some order has the property, an assignment makes clauses and assumptions true. Neither is contradictory by itself.
+-- Exactly if some word with some order has the property, some assignment makes clauses and assumptions true. Neither is contradictory by itself.
 pub record Tells (clauses : List Clause) (assumed : List Lit) (has : Property) : Type 0 where
   -- what has the property has an assignment
   pub complete : (word : List ℕ) (order : List Entry) → has word order → (assignment : ℕ → Bool) × MakesTrue assignment clauses assumed
@@ -52,9 +52,9 @@ SamePropertyTold = (has other : Property) (clauses : List Clause) (assumed : Lis
 
 -- Further clauses and assumptions say something of the truth of meanings, whatever it is: they may read the variables that have meanings, and choose others.
 pub record Rides (meanings : List (ℕ × Meaning)) (rider : List Clause) (further : List Lit) (says : (Meaning → Bool) → Type 0) : Type 0 where
-  -- where it is so, the other variables can be chosen
+  -- if it holds, the other variables can be chosen
   pub complete : (value : Meaning → Bool) → says value → (given : ℕ → Bool) × MakesTrue (assignment_by meanings value given) rider further
-  -- and where all is true it is so
+  -- and if all is true, it holds
   pub sound : (assignment : ℕ → Bool) → MakesTrue assignment rider further → says (value_by meanings assignment)
   -- the clauses alone never stand against a truth of meanings
   pub free : (value : Meaning → Bool) → (given : ℕ → Bool) × AllClausesTrue (assignment_by meanings value given) rider

@@ -41,7 +41,7 @@ pub fn bound_is_read()
     ensures { BoundIsRead }
 {}
 
-/// A law: literals that are the inputs of the counter by some meanings are so by more.
+/// A law: literals that are the inputs of the counter by some meanings still are by more.
 pub fn fault_literals_stay()
     ensures { FaultLiteralsStay }
 {}

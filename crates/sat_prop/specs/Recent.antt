@@ -1,4 +1,4 @@
--- The clauses that were learnt last, and of each its signature: bits of its literals, which tell at once that it is no part of another clause.
+-- The clauses that were learnt last, and of each its signature: bits of its literals, which show at once that it is no part of another clause.
 use Rattle.std.specs.Prelude.{◌≡◌, ℕ, ◌%◌, ◌≤◌, ◌==◌, List, [], ◌∷◌, ◌++◌, drop, replicate, if◌then◌else◌}
 use Rattle.std.specs.Int.{bit_at}
 use Rattle.std.specs.List.{list_any}

@@ -6,7 +6,7 @@ use Rattle.prop_core.specs.Derivation.{clause_numbered}
 use Rattle.prop_core.specs.Trail.{is_forced_by, no_literal}
 
 -- The clauses as they were when one was attached last, the numbers of those that are attached, the literals that are true,
--- in the order in which they became so, each with the number of the clause that forced it, or none where it was decided,
+-- in the order in which they became so, each with the number of the clause that forced it, or none if it was decided,
 -- the number of variables, and for how many more clauses there is room.
 pub record TrailState : Type 0 where
   pub clauses : List Clause
@@ -20,7 +20,7 @@ pub record TrailState : Type 0 where
 abbrev pub literal_at : List Lit → ℕ → Lit
 literal_at literals place = slice_index_or literals place no_literal
 
--- the number of the clause that forced the literal at a place: none where it was decided, and beyond the last
+-- the number of the clause that forced the literal at a place: none if it was decided, and beyond the last
 abbrev pub reason_at : List (Option ℕ) → ℕ → Option ℕ
 reason_at reasons place = slice_index_or reasons place None
 
@@ -48,7 +48,7 @@ pub record IsKnownClause (clauses : List Clause) (vars number : ℕ) : Type 0 wh
 abbrev pub AreKnownClauses : List Clause → List ℕ → ℕ → Type 0
 AreKnownClauses clauses attached vars = (place : ℕ) → place < length attached → IsKnownClause clauses vars (slice_index attached place)
 
--- the value that the literals give a variable: none where it is open
+-- the value that the literals give a variable: none if it is open
 abbrev pub trail_value : List Lit → ℕ → Option Bool
 trail_value literals var =
     if is_true literals (record { var = var; positive = true }) then Some true

@@ -47,7 +47,7 @@ abbrev pub watches_from : ℕ → List Node → List Watch
 watches_from number [] = []
 watches_from number (node ∷ nodes) = watch_of number node ∷ watches_from (suc number) nodes
 
--- the number that comes next, or none where the list ends
+-- the number that comes next, or none if the list ends
 abbrev pub as_link : ℕ → Option ℕ
 as_link number = if number == NO_WATCH then None else Some number
 
@@ -55,7 +55,7 @@ as_link number = if number == NO_WATCH then None else Some number
 abbrev pub watches_of : List Node → List Watch
 watches_of nodes = watches_from 0 nodes
 
--- of each watch the number that comes next in its list, or none where the list ends
+-- of each watch the number that comes next in its list, or none if the list ends
 abbrev pub nexts_of : List Node → List (Option ℕ)
 nexts_of nodes = map (λ n. as_link n.next) nodes
 
@@ -89,7 +89,7 @@ is_among number numbers = list_any (nat_eq number) numbers
 abbrev pub empty : Lists
 empty = record { positive = record { first = NO_WATCH; last = NO_WATCH }; negative = record { first = NO_WATCH; last = NO_WATCH } }
 
--- the two lists of a variable; where there are none, both are empty
+-- the two lists of a variable; if there are none, both are empty
 abbrev pub lists_at : List Lists → ℕ → Lists
 lists_at lists var = slice_index_or lists var empty
 

@@ -33,7 +33,7 @@ left_to_try t = drop t.next t.literals
 abbrev pub first_open_try : Tries → List Lit → ℕ → Option Lit
 first_open_try t taken vars = find (can_be_decided taken vars) (left_to_try t)
 
--- those before it are passed over, and all where there is none
+-- those before it are passed over, and all if there is none
 abbrev pub at_first_open_try : Tries → List Lit → ℕ → Tries
 at_first_open_try t taken vars = record t { next = t.next + position_or_len (can_be_decided taken vars) (left_to_try t) }
 

@@ -25,6 +25,6 @@ IncludeVariablesOf variables book = (var : ℕ) → occurs var book ≡ true →
 abbrev pub IsSmallFor : List BookEntry → ℕ → Type 0
 IsSmallFor book budget = (variables : List ℕ) → IncludeVariablesOf variables book → budget < 3 ^ length variables
 
--- Where all replies are given and something is left open, the budget is so small.
+-- If all replies are given and something is left open, the budget is that small.
 abbrev pub OpenIsSmall : Type 0
 OpenIsSmall = (net : Net) (log : Log) (n budget : ℕ) (found : Found) (verdicts : List Verdict) (book : List BookEntry) (texts : List (List ℕ)) → HaveReplies net log n budget found (events_behind net found) book verdicts texts → leaves_open (told_of found verdicts) ≡ true → IsSmallFor book budget

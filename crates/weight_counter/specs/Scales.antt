@@ -82,7 +82,7 @@ pub record AddsScale (inputs : List Weighted) (amounts first : ℕ) (written : L
 
 -- ---- what they are
 
--- A scale's clauses are those of its inputs, and the place of a variable can be told from it.
+-- A scale's clauses are those of its inputs, and a variable determines its place.
 pub record IsExactScale (scale : Scale) (inputs : List Weighted) : Type 0 where
   pub clauses : AreWeightClauses (place_variable scale) inputs scale.amounts (scale_clauses (place_variable scale) scale.amounts inputs)
   pub input_back : (i j : ℕ) → IsScalePlace scale i j → input_of scale (place_variable scale i j) ≡ i

@@ -44,7 +44,7 @@ pub record AreWeightClauses (at : ℕ → ℕ → ℕ) (inputs : List Weighted) 
 
 -- ---- what they say
 
--- Where the clauses are true, so are the variables of all places that the inputs reach;
+-- If the clauses are true, so are the variables of all places that the inputs reach;
 abbrev pub WeightsAreReached : Type 0
 WeightsAreReached = (at : ℕ → ℕ → ℕ) (inputs : List Weighted) (amounts : ℕ) (clauses : List Clause) (value : ℕ → Bool) → AreWeightClauses at inputs amounts clauses → AllClausesTrue value clauses →
     (i j : ℕ) → i < length inputs → j < amounts → suc j ≤ weight_true value (take (suc i) inputs) → value (at i j) ≡ true
