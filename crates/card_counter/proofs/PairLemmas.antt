@@ -11,7 +11,12 @@ use Rattle.prop_core.proofs.Premises.{opposite}
 use Rattle.prop_core.specs.declared.lit.Lit.{Lit}
 use Rattle.prop_core.specs.Clauses.{Clause, negation, literal_true, clause_true, AllClausesTrue}
 use Rattle.card_counter.proofs.ListLemmas.{all_both}
-use Rattle.card_counter.specs.AtMostOne.{AreNotBothTrue, not_both, pairs_after, excluded_pairs, PairsExclude}
+use Rattle.card_counter.specs.AtMostOne.{AreNotBothTrue, not_both, pairs_after, excluded_pairs, AtMostOneTrue}
+use Rattle.std.specs.Prelude.{◌↔◌}
+
+-- The clauses of all pairs are true exactly if at most one input is.
+abbrev pub PairsExclude : Type 0
+PairsExclude = (value : ℕ → Bool) (inputs : List Lit) → AllClausesTrue value (excluded_pairs inputs) ↔ AtMostOneTrue value inputs
 
 -- ---- the pairs of a longer list
 

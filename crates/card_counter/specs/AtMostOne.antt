@@ -54,10 +54,6 @@ exclusion_clauses inputs first = if nat_le (length inputs) 4 then excluded_pairs
 
 -- ---- what they say
 
--- The clauses of all pairs are true exactly if at most one input is.
-abbrev pub PairsExclude : Type 0
-PairsExclude = (value : ℕ → Bool) (inputs : List Lit) → AllClausesTrue value (excluded_pairs inputs) ↔ AtMostOneTrue value inputs
-
 -- the same truth for each variable but `count` of them, from `first` on
 abbrev pub AgreeBut : ℕ → ℕ → (ℕ → Bool) → (ℕ → Bool) → Type 0
 AgreeBut first count given assignment = (var : ℕ) → (var < first) ⊎ (first + count ≤ var) → assignment var ≡ given var
