@@ -14,9 +14,13 @@ use Rattle.des_net.specs.Limits.{most_events, most_parts}
 use Rattle.des_net.specs.Models.{takes}
 use Rattle.des_net.specs.Network.{Component, Event, Net}
 use Rattle.gen_plant.specs.Plant.{most_units, units, bus_component, unit_component, jam_name, trip_name, fix_name, event_names_of, events_of, trip_label, fix_label}
-use Rattle.gen_plant.specs.Stages.{first_components, first_events, with_unit_events, after_jam, after_trip, AwaitsUnit}
+use Rattle.gen_plant.specs.Stages.{first_components, with_unit_events, after_jam, after_trip, AwaitsUnit}
 use Rattle.gen_plant.proofs.Lists.{units_more, units_below, absent_append, absent_flat, unlike}
 use Rattle.gen_plant.proofs.NameLemmas.{other_numeral}
+
+-- all units, and the events of the first of them
+abbrev pub first_events : ℕ → ℕ → Net
+first_events z done = record (first_components z) { event_names = flat_map event_names_of (units done); events = flat_map events_of (units done) }
 
 -- ---- nothing is refused
 

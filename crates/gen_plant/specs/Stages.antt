@@ -1,5 +1,5 @@
 -- What stands while a plant is made, unit by unit: steps of the code, not of the subject.
-use Rattle.std.specs.Prelude.{◌≡◌, ℕ, ◌+◌, ◌<◌, Bool, true, false, ◌&&◌, nat_le, Some, None, List, [], ◌∷◌, ◌++◌, map, flat_map, length, codes, slice_set}
+use Rattle.std.specs.Prelude.{◌≡◌, ℕ, ◌+◌, ◌<◌, Bool, true, false, ◌&&◌, nat_le, Some, None, List, [], ◌∷◌, ◌++◌, map, length, codes, slice_set}
 use Rattle.std.specs.List.{list_all}
 use Rattle.des_base.specs.Names.{is_name_byte, place_of}
 use Rattle.des_net.specs.Network.{Component, Net}
@@ -29,10 +29,6 @@ first_components z = record {
   event_names = [];
   events = [];
 }
-
--- all units, and the events of the first of them
-abbrev pub first_events : ℕ → ℕ → Net
-first_events z done = record (first_components z) { event_names = flat_map event_names_of (units done); events = flat_map events_of (units done) }
 
 -- the events of one more unit
 abbrev pub with_unit_events : Net → ℕ → Net
