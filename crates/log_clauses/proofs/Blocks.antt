@@ -11,9 +11,9 @@ use Rattle.des_net.specs.Network.{Net, label_of}
 use Rattle.des_net.specs.Width.{joined}
 use Rattle.log_clauses.proofs.Entries.{real_true, real_false, alarms_append}
 use Rattle.log_clauses.proofs.Lists.{all_at}
-use Rattle.log_clauses.specs.Coded.{is_paired}
 use Rattle.log_order.specs.Log.{Log}
 use Rattle.replay.specs.Explanation.{Entry, alarms_of, real_alarms, observables, Shows}
+use Rattle.log_clauses.proofs.CodedTruth.{is_paired}
 
 -- the order doesn't begin with a false alarm
 abbrev StartsTrue : List Entry → Type 0

@@ -15,7 +15,6 @@ use Rattle.log_clauses.proofs.Lists.{all_at}
 use Rattle.log_clauses.proofs.Pieces.{IsStepSet, AreFrom, piece_is, pieces_are_steps}
 use Rattle.log_clauses.proofs.Rules.{or_false_is, shown_matches, shown_event, in_chain, has_event}
 use Rattle.log_clauses.proofs.Entries.{real_in, real_once, entry_in, real_has, real_from, one_entry, dropped_has, dropped_from, has_false}
-use Rattle.log_clauses.specs.Coded.{alarm_stands_for, coded_truth}
 use Rattle.log_clauses.specs.LogClauses.{chain, LogClause, log_clause, IsLogClause, chain_closed, takes_rest, uses_up, passes_on, taken_or_passed, not_done_first, stays_done, match_is_done, matched_once, match_is_real, done_by_match, one_match, done_if_asked, before_if_asked, matching_events, match_inputs}
 use Rattle.log_clauses.specs.Decoded.{is_false_alarm}
 use Rattle.log_clauses.specs.LogLaws.{HasFalse, LogIsComplete}
@@ -29,6 +28,7 @@ use Rattle.run_clauses.proofs.StepLemmas.{found, among, mapped}
 use Rattle.log_clauses.proofs.Fronts.{take_has, take_grows, take_last, take_not, apart_append, once_left, block_once, next_front, front_and_rest, place_inside, inside_place}
 use Rattle.log_clauses.proofs.Blocks.{cut_order, blocks_length, block_at, block_alarms, joined_alarms, block_has, paired, partner, partner_back, paired_in, same_alarm, same_event}
 use Rattle.std.proofs.lemmas.List.Elements.{Contains-append_cases, Contains-append_left, Contains-append_right}
+use Rattle.log_clauses.proofs.CodedTruth.{alarm_stands_for, coded_truth}
 
 -- what stands in a list that was changed element by element
 mapped_at : {X Y : Type 0} (f : X → Y) (xs : List X) (k : ℕ) (y : Y) → slice_get (map f xs) k ≡ Some y → (x : X) × (slice_get xs k ≡ Some x) × (f x ≡ y)

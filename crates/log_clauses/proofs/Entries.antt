@@ -11,12 +11,12 @@ use Rattle.des_base.proofs.Elements.{cons_cases, here_first, here_later, none_in
 use Rattle.des_base.proofs.NumbersBelow.{range_once}
 use Rattle.des_base.specs.Lists.{EachPair, numbers_below}
 use Rattle.log_clauses.proofs.Lists.{range_has, range_from, all_at}
-use Rattle.log_clauses.specs.Coded.{is_dropped}
 use Rattle.log_clauses.specs.Decoded.{is_false_alarm, decoded_entry}
 use Rattle.log_clauses.specs.LogLaws.{HasFalse}
 use Rattle.log_order.specs.Log.{Log, ListsOnce, is_doubtful}
 use Rattle.prop_core.specs.VariableNames.{Meaning, dropped}
 use Rattle.replay.specs.Explanation.{Entry, alarms_of, real_alarms, false_count, may_stand}
+use Rattle.log_clauses.proofs.CodedTruth.{is_dropped}
 
 -- ---- orders one after another
 

@@ -4,6 +4,7 @@ pub mod Open
 pub mod ReadNames
 pub mod Rules
 pub mod Fronts
+pub mod CodedTruth
 pub mod Entries
 pub mod Sound
 mod Blocks

@@ -13,13 +13,17 @@ use Rattle.log_clauses.proofs.Lists.{all_at, found_is, finds, is_before, from_pl
 use Rattle.log_clauses.proofs.Pieces.{IsStepSet, AreFrom, pieces_are_steps}
 use Rattle.log_clauses.proofs.Rules as rules
 use Rattle.log_clauses.proofs.Rules.{shows, is_shown, shown_event, matching_alarm, has_event, event_matches, one_alarm, one_event, one_step, false_first, comes_by_match, match_comes, match_real, each_comes, has_alarm, no_step_back}
-use Rattle.log_clauses.specs.Decoded.{alarm_event, alarms_at, shown_at, unobservables, is_false_alarm, comes, entries_at, arranged, arranged_order, whole_order}
+use Rattle.log_clauses.specs.Decoded.{alarm_event, shown_at, unobservables, is_false_alarm, comes, entries_at, arranged, arranged_order, whole_order}
 use Rattle.log_clauses.specs.LogClauses.{matching_events}
 use Rattle.log_clauses.specs.LogLaws.{IsArranged, LogIsSound}
 use Rattle.log_clauses.specs.LogTruth.{LogClausesHold, GuardsHold}
 use Rattle.log_order.specs.Log.{Log, ListsOnce, Keeps, IsValidLog, place_in}
 use Rattle.prop_core.specs.VariableNames.{Meaning, happens, matches, done}
 use Rattle.replay.specs.Explanation.{Entry, alarms_of, real_alarms, may_stand, observables, Shows, Linearises, is_matching}
+
+-- those of the alarms that stand for an event of the step after t steps
+abbrev pub alarms_at : Net → Log → (Meaning → Bool) → List ℕ → ℕ → List ℕ
+alarms_at net log value alarms t = filter (λ i. is_some (alarm_event net log value t i)) alarms
 
 filter_none : {X : Type 0} (p : X → Bool) (xs : List X) → ((x : X) → Contains xs x → p x ≡ false) → filter p xs ≡ []
 filter_none p [] h = refl

@@ -5,7 +5,7 @@ use Rattle.std.specs.List.{list_all}
 use Rattle.des_net.specs.Models.{apart, pump}
 use Rattle.log_order.specs.Log.{Alarm, Log, no_log, a_log, an_alarm}
 use Rattle.log_clauses.specs.Additions.{alarm_added, pair_added, with_addition, log_after}
-use Rattle.log_clauses.specs.Coded.{coded_truth, opened}
+use Rattle.log_clauses.specs.Coded.{opened}
 use Rattle.log_clauses.specs.Decoded.{decoded, decoded_order, alarm_at, alarm_event}
 use Rattle.log_clauses.specs.Drafts.{added_clauses, first_clauses}
 use Rattle.des_net.specs.Network.{observable_events}
@@ -18,6 +18,7 @@ use Rattle.prop_core.specs.NamedClauses.{named_true, named_clause_true}
 use Rattle.card_counter.specs.Exclusions.{two}
 use Rattle.prop_core.specs.VariableNames.{Meaning, in_state, happens, asked, matches, done, unmatched, closed, dropped, reaches, some_of_first, yes, no}
 use Rattle.std.specs.Prelude.{Some, None}
+use Rattle.log_clauses.proofs.CodedTruth.{coded_truth}
 
 abbrev pub alarm : List ℕ → List (List ℕ) → Alarm
 alarm meaning labels = an_alarm meaning labels false

@@ -15,10 +15,6 @@ alarm_event net log value t i = find (λ e. value (matches i e (suc t))) (matchi
 abbrev pub alarm_at : Net → Log → (Meaning → Bool) → ℕ → ℕ → Option ℕ
 alarm_at net log value e t = find (λ i. value (matches i e t)) (chain net log e)
 
--- those of the alarms that stand for an event of the step after t steps
-abbrev pub alarms_at : Net → Log → (Meaning → Bool) → List ℕ → ℕ → List ℕ
-alarms_at net log value alarms t = filter (λ i. is_some (alarm_event net log value t i)) alarms
-
 -- the events that these alarms stand for in the step after t steps, in the order of the alarms
 abbrev pub shown_at : Net → Log → (Meaning → Bool) → List ℕ → ℕ → List ℕ
 shown_at net log value alarms t = filter_map (alarm_event net log value t) alarms
