@@ -6,12 +6,19 @@ use Rattle.std.proofs.lemmas.List.{get_or_default}
 use Rattle.std.proofs.lemmas.List.Elements.{All-from_recursion}
 use Rattle.log_order.specs.Log.{ListsOnce, AreKnown, place_in, has_pair, reaches}
 use Rattle.des_base.specs.Lists.{EachPair}
-use Rattle.log_order.specs.Precedence.{is_in, is_marked, IsKeptOrder, IsPassed}
+use Rattle.log_order.specs.Precedence.{is_in, is_marked, IsKeptOrder}
 use Rattle.des_base.proofs.BoolLemmas.{both, either, or_left, or_right, otherwise, same, itself, alike}
 use Rattle.log_order.proofs.Places.{places-from}
 use Rattle.log_order.proofs.Reaching.{IsClosed, reaches-least, reaches-closed, reaches-itself}
 use Rattle.log_order.proofs.OrderLemmas.{stands-kept}
 use Rattle.log_order.proofs.MarkLemmas.{marked-set, none_marked}
+
+-- along the first k of the order, each marked number's followers are marked, and only what is reached is
+pub record IsPassed (pairs : List (ℕ × ℕ)) (order : List ℕ) (from : ℕ) (marks : List Bool) (k : ℕ) : Type 0 where
+  pub long : length marks ≡ length order
+  pub start : is_marked marks from ≡ true
+  pub sound : (i : ℕ) → is_marked marks i ≡ true → reaches pairs from i ≡ true
+  pub closed : (i j : ℕ) → has_pair pairs i j ≡ true → place_in order i < k → is_marked marks i ≡ true → is_marked marks j ≡ true
 
 -- ---- places in an order
 

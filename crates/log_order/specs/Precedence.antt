@@ -1,7 +1,7 @@
 -- Pairs of numbers below a count, and what is kept beside them so that a cycle is found in one pass.
-use Rattle.std.specs.Prelude.{◌≡◌, ℕ, ◌<◌, Bool, true, false, not, ◌==◌, List, [], ◌∷◌, ◌++◌, length, slice_index_or, slice_set}
+use Rattle.std.specs.Prelude.{◌≡◌, ℕ, Bool, false, not, ◌==◌, List, [], ◌∷◌, ◌++◌, length, slice_index_or, slice_set}
 use Rattle.std.specs.List.{list_any, filter}
-use Rattle.log_order.specs.Log.{ListsOnce, Keeps, AreKnown, has_pair, reaches, place_in}
+use Rattle.log_order.specs.Log.{ListsOnce, Keeps, AreKnown, has_pair}
 
 -- numbers below a count, and pairs of them, "the first before the second", in the order in which they were added
 pub record Precedence : Type 0 where
@@ -39,10 +39,3 @@ pub record IsKeptOrder (pairs : List (ℕ × ℕ)) (order : List ℕ) (lists : L
   pub kept : Keeps order pairs
   pub matched : length lists ≡ length order
   pub followers : AreFollowers pairs lists
-
--- along the first k of the order, each marked number's followers are marked, and only what is reached is
-pub record IsPassed (pairs : List (ℕ × ℕ)) (order : List ℕ) (from : ℕ) (marks : List Bool) (k : ℕ) : Type 0 where
-  pub long : length marks ≡ length order
-  pub start : is_marked marks from ≡ true
-  pub sound : (i : ℕ) → is_marked marks i ≡ true → reaches pairs from i ≡ true
-  pub closed : (i j : ℕ) → has_pair pairs i j ≡ true → place_in order i < k → is_marked marks i ≡ true → is_marked marks j ≡ true

@@ -3,8 +3,8 @@ use Rattle.std.proofs.Common.{◌≡◌, ◌∙◌, ◌<◌, ◌≤◌, ◌+◌,
 use Rattle.std.proofs.lemmas.Grind.{common_steps}
 use Rattle.std.proofs.lemmas.List.{get_or_default}
 use Rattle.log_order.specs.Log.{reaches}
-use Rattle.log_order.specs.Precedence.{Precedence, IsPassed, is_marked}
-use Rattle.log_order.proofs.PassLemmas.{IsPassed-start, IsPassed-marked, IsPassed-unmarked, IsPassed-end, followers-known, list-at}
+use Rattle.log_order.specs.Precedence.{Precedence, is_marked}
+use Rattle.log_order.proofs.PassLemmas.{IsPassed-start, IsPassed-marked, IsPassed-unmarked, IsPassed-end, followers-known, list-at, IsPassed}
 use Rattle.log_order.proofs.precedence.Precedence.reached.Goals as goal
 use Rattle.log_order.proofs.precedence.Precedence.reached.Goals.{then-is_marked, else-is_marked}
 
