@@ -9,7 +9,13 @@ use Rattle.des_base.proofs.Elements.{all_at}
 use Rattle.prop_core.specs.declared.lit.Lit.{Lit}
 use Rattle.prop_core.specs.Clauses.{Clause, literal_true, clause_true, AllClausesTrue}
 use Rattle.prop_core.specs.VariableNames.{Meaning, in_state, happens, asked, matches, done, unmatched, closed, dropped, reaches, some_of_first, Exclusion, of_states, of_events, of_matches, NamedLiteral, HasEachOnce, meaning_of, named_literal, with_literal, named_clause, ReadsAs}
-use Rattle.prop_core.specs.NamedClauses.{same_sign, named_true, named_clause_true, same_exclusion, same_meaning, variable_of, Match, ValuesMatch, AssignmentsMatch, AllHold, CodeHolds}
+use Rattle.prop_core.specs.NamedClauses.{same_sign, named_true, named_clause_true, same_exclusion, same_meaning, variable_of, Match, ValuesMatch, AssignmentsMatch, AllHold, IsCode}
+use Rattle.std.specs.Prelude.{◌↔◌}
+
+-- Clauses of a family are true exactly if the family is, by name.
+abbrev pub CodeHolds : (List NamedLiteral → Type 0) → Type 0
+CodeHolds family = (meanings : List (ℕ × Meaning)) (clauses : List Clause) (assignment : ℕ → Bool) (value : Meaning → Bool) →
+    IsCode meanings family clauses → Match meanings assignment value → AllClausesTrue assignment clauses ↔ AllHold family value
 
 -- further names change nothing
 pub found_more : (names more : List (ℕ × Meaning)) (var : ℕ) (meaning : Meaning) → meaning_of names var ≡ Some meaning → meaning_of (names ++ more) var ≡ Some meaning

@@ -1,7 +1,7 @@
 -- Clauses by the meanings of their variables, and families of clauses.
-use Rattle.std.specs.Prelude.{◌≡◌, ◌↔◌, ℕ, Bool, true, false, not, ◌&&◌, ◌==◌, List, Option, Some, find, option_map, unwrap_or, Contains, IsTrue}
+use Rattle.std.specs.Prelude.{◌≡◌, ℕ, Bool, true, false, not, ◌&&◌, ◌==◌, List, Option, Some, find, option_map, unwrap_or, Contains, IsTrue}
 use Rattle.std.specs.List.{AllByRecursion, list_any}
-use Rattle.prop_core.specs.Clauses.{Clause, AllClausesTrue}
+use Rattle.prop_core.specs.Clauses.{Clause}
 use Rattle.prop_core.specs.VariableNames.{Meaning, in_state, happens, asked, matches, done, unmatched, closed, dropped, reaches, some_of_first, Exclusion, of_states, of_events, of_matches, NamedLiteral, HasEachOnce, meaning_of, ReadsAs}
 
 -- ---- truth by name
@@ -80,8 +80,3 @@ pub record IsCode (meanings : List (ℕ × Meaning)) (family : List NamedLiteral
 -- each clause of a family is true
 abbrev pub AllHold : (List NamedLiteral → Type 0) → (Meaning → Bool) → Type 0
 AllHold family value = (named : List NamedLiteral) → family named → IsTrue (named_clause_true value named)
-
--- Clauses of a family are true exactly if the family is, by name.
-abbrev pub CodeHolds : (List NamedLiteral → Type 0) → Type 0
-CodeHolds family = (meanings : List (ℕ × Meaning)) (clauses : List Clause) (assignment : ℕ → Bool) (value : Meaning → Bool) →
-    IsCode meanings family clauses → Match meanings assignment value → AllClausesTrue assignment clauses ↔ AllHold family value
