@@ -10,7 +10,7 @@ use Rattle.log_clauses.specs.Decoded.{decoded, decoded_order}
 use Rattle.log_order.specs.Log.{Log, IsValidLog}
 use Rattle.prop_core.proofs.NameLemmas.{assignments_match}
 use Rattle.prop_core.proofs.Premises.{opposite}
-use Rattle.prop_core.specs.Clauses.{Clause, negation, literal_true, clause_true, AllClausesTrue, AllLiteralsTrue}
+use Rattle.prop_core.specs.Clauses.{Clause, negation, literal_true, clause_true, AllClausesTrue, AllLiteralsTrue, NegatesOnly}
 use Rattle.prop_core.specs.NamedClauses.{same_sign, named_true, value_by, assignment_by}
 use Rattle.prop_core.specs.VariableNames.{Meaning, meaning_of, ReadsAs}
 use Rattle.prop_core.specs.declared.lit.Lit.{Lit}
@@ -21,7 +21,25 @@ use Rattle.run_decode.proofs.Truths.{explained_has_truth, question_has_truth}
 use Rattle.run_decode.specs.Drawn.{assumption_literals}
 use Rattle.run_decode.specs.Faithful.{IsWithin, MakesTrue, IsFaithful}
 use Rattle.run_decode.specs.Question.{Asks}
-use Rattle.run_decode.specs.Tells.{Property, Tells, ExplainsWithin, FaithfulTells, ToldIsRefuted, SamePropertyTold, Rides, SaysOfWords, AreBoth, RiddenTells}
+use Rattle.run_decode.specs.Tells.{Property, Tells, ExplainsWithin, FaithfulTells, Rides, SaysOfWords, AreBoth}
+use Rattle.replay.specs.Explanation.{Entry}
+use Rattle.run_decode.specs.Decided.{Entails}
+
+-- Where the clauses entail a clause of negated assumptions, nothing has the property that they tell.
+abbrev pub ToldIsRefuted : Type 1
+ToldIsRefuted = (has : Property) (clauses : List Clause) (assumed : List Lit) (clause : Clause) → Tells clauses assumed has → Entails clauses clause → NegatesOnly assumed clause →
+    (word : List ℕ) (order : List Entry) → has word order → ⊥
+
+-- Properties of the same words and orders are told by the same clauses.
+abbrev pub SamePropertyTold : Type 1
+SamePropertyTold = (has other : Property) (clauses : List Clause) (assumed : List Lit) → ((word : List ℕ) (order : List Entry) → has word order ↔ other word order) → Tells clauses assumed has → Tells clauses assumed other
+
+-- A question with a rider tells which of its explanations have what the rider says.
+abbrev pub RiddenTells : Type 1
+RiddenTells = (net : Net) (log : Log) (n : ℕ) (bound : Option ℕ) (meanings : List (ℕ × Meaning)) (clauses rider whole : List Clause) (assumed further : List Lit)
+    (says : (Meaning → Bool) → Type 0) (has : Property) → IsNetwork net → IsValidLog log → Asks net log n bound meanings clauses assumed →
+    Rides meanings rider further says → SaysOfWords net log n says has → AreBoth whole clauses rider → EachPair (λ a b. a ≢ negation b) (assumed ++ further) →
+    Tells whole (assumed ++ further) (λ word order. ExplainsWithin net log n bound word order × has word order)
 
 pub faithful_tells : FaithfulTells
 faithful_tells net log n bound clauses assumed faithful = record {

@@ -1,19 +1,17 @@
 -- When clauses and assumptions tell whether some explanation has a property; and questions that tell more than a bound, by a rider on the clauses of a question.
-use Rattle.std.specs.Prelude.{◌≡◌, ◌≢◌, ◌↔◌, ◌⊎◌, ℕ, Bool, List, ◌++◌, Option, Contains}
+use Rattle.std.specs.Prelude.{◌≢◌, ◌↔◌, ◌⊎◌, ℕ, Bool, List, Option, Contains}
 use Rattle.des_base.specs.Lists.{EachPair}
-use Rattle.des_net.specs.Network.{Net, IsNetwork}
+use Rattle.des_net.specs.Network.{Net}
 use Rattle.des_net.specs.Width.{joined}
 use Rattle.log_clauses.specs.LogLaws.{HasFalse}
-use Rattle.log_order.specs.Log.{Log, IsValidLog}
-use Rattle.prop_core.specs.Clauses.{Clause, negation, AllClausesTrue, NegatesOnly}
+use Rattle.log_order.specs.Log.{Log}
+use Rattle.prop_core.specs.Clauses.{Clause, negation, AllClausesTrue}
 use Rattle.prop_core.specs.NamedClauses.{value_by, assignment_by}
 use Rattle.prop_core.specs.VariableNames.{Meaning}
 use Rattle.prop_core.specs.declared.lit.Lit.{Lit}
 use Rattle.replay.specs.Explanation.{Entry, Explains, faults_of}
 use Rattle.run_clauses.specs.Steps.{AreSteps}
-use Rattle.run_decode.specs.Decided.{Entails}
 use Rattle.run_decode.specs.Faithful.{IsWithin, MakesTrue, IsFaithful}
-use Rattle.run_decode.specs.Question.{Asks}
 
 -- a property of a word and an order of the alarms
 abbrev pub Property : Type 1
@@ -39,15 +37,6 @@ abbrev pub FaithfulTells : Type 0
 FaithfulTells = (net : Net) (log : Log) (n : ℕ) (bound : Option ℕ) (clauses : List Clause) (assumed : List Lit) →
     IsFaithful clauses assumed net log n bound → Tells clauses assumed (ExplainsWithin net log n bound)
 
--- Where the clauses entail a clause of negated assumptions, nothing has the property that they tell.
-abbrev pub ToldIsRefuted : Type 1
-ToldIsRefuted = (has : Property) (clauses : List Clause) (assumed : List Lit) (clause : Clause) → Tells clauses assumed has → Entails clauses clause → NegatesOnly assumed clause →
-    (word : List ℕ) (order : List Entry) → has word order → ⊥
-
--- Properties of the same words and orders are told by the same clauses.
-abbrev pub SamePropertyTold : Type 1
-SamePropertyTold = (has other : Property) (clauses : List Clause) (assumed : List Lit) → ((word : List ℕ) (order : List Entry) → has word order ↔ other word order) → Tells clauses assumed has → Tells clauses assumed other
-
 -- ---- riders
 
 -- Further clauses and assumptions say something of the truth of meanings, whatever it is: they may read the variables that have meanings, and choose others.
@@ -66,10 +55,3 @@ SaysOfWords net log n says has = (value : Meaning → Bool) (pieces : List (List
 -- the list has the clauses of both, in whatever order
 abbrev pub AreBoth : List Clause → List Clause → List Clause → Type 0
 AreBoth whole clauses rider = (clause : Clause) → Contains whole clause ↔ Contains clauses clause ⊎ Contains rider clause
-
--- A question with a rider tells which of its explanations have what the rider says.
-abbrev pub RiddenTells : Type 1
-RiddenTells = (net : Net) (log : Log) (n : ℕ) (bound : Option ℕ) (meanings : List (ℕ × Meaning)) (clauses rider whole : List Clause) (assumed further : List Lit)
-    (says : (Meaning → Bool) → Type 0) (has : Property) → IsNetwork net → IsValidLog log → Asks net log n bound meanings clauses assumed →
-    Rides meanings rider further says → SaysOfWords net log n says has → AreBoth whole clauses rider → EachPair (λ a b. a ≢ negation b) (assumed ++ further) →
-    Tells whole (assumed ++ further) (λ word order. ExplainsWithin net log n bound word order × has word order)
