@@ -1,0 +1,15 @@
+-- A label whose place has no mark is none of them.
+use Rattle.std.proofs.Common.{◌∙◌, ap, sym, get_or, bytes_eq, ℕ, Bool, false, List}
+use Rattle.std.specs.Prelude.{◌&&◌}
+use Rattle.std.specs.List.{list_any}
+use Rattle.label_sets.proofs.Marked.{sifted}
+use Rattle.label_sets.proofs.label_set.LabelSet.has.Goals as goal
+
+pub returns-else-self-place_of : goal.returns-else-self-place_of
+returns-else-self-place_of c =
+    let marks : List Bool = c.self.inside.marks in
+    let label : List ℕ = c.args.label.now in
+    let labels : List (List ℕ) = c.self.inside.labels.now in
+    c.if-self-place_of.false
+    ∙ sym (sifted marks label labels c.self.invariant ∙ ap (λ b. b && list_any (bytes_eq label) labels) (ap (λ p. get_or marks p false) (sym c.place_of.ensures.is) ∙ c.if-self-place_of.false))
+    ∙ ap (λ (ls : List (List ℕ)). list_any (bytes_eq label) ls) c.self.view_is
