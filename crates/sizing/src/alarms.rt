@@ -7,10 +7,10 @@ ghost use Rattle.log_order.specs.declared.TheConstants.{MOST_ALARMS};
 ghost use Rattle.log_order.specs.Log.{is_doubtful};
 ghost use Rattle.replay.specs.QuestionSize.{matching_count, alarm_sizes, doubtful_count};
 
-use des_base::{EventId, Name};
+use des_base::EventId;
 use des_net::Network;
+use label_sets::LabelSet;
 use log_order::AlarmLog;
-use replay::has_any_label;
 
 /// For each alarm, the square of the events that it may stand for, and one.
 #[tactic(auto, using(des_base::proofs::NumbersBelow::sum_numbers_more))]
@@ -42,9 +42,9 @@ fn matching_events(net: &Network, log: &AlarmLog, alarm: u32) -> u64
     ensures count { result ≡ matching_count net.now log.now alarm }
     ensures few { result ≤ length net.now.events }
 {
-    let labels = log.labels(alarm);
+    let wanted = LabelSet::of(log.labels(alarm));
     (0..net.events())
-        .filter(|event| has_any_label(net, EventId(*event), labels))
+        .filter(|event| wanted.has_label_of(net, EventId(*event)))
         .count() as u64
 }
 

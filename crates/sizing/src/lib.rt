@@ -10,6 +10,7 @@
 mod alarms;
 mod events;
 mod question;
+mod touching;
 
 pub use alarms::{alarm_sizes, doubtful_alarms};
 pub use events::{component_sizes, fault_events};
