@@ -1,5 +1,5 @@
 -- What the calls of a log's code need of it and give, over plain values.
-use Rattle.std.proofs.Common.{◌≡◌, ◌⊎◌, inl, inr, ℕ, zero, suc, ◌+◌, ◌*◌, ◌-◌, ◌<◌, ◌≤◌, ◌∙◌, Bool, true, false, List, [], ◌∷◌, ◌++◌, length, map, filter, find, Option, Some, None, refl, sym, ap, subst, arith, slice_get, slice_index_or, Contains, All, IfSome, ◌==◌, ◌&&◌}
+use Rattle.std.proofs.Common.{◌≡◌, ◌⊎◌, inl, inr, ℕ, zero, suc, ◌+◌, ◌*◌, ◌-◌, ◌<◌, ◌≤◌, ◌∙◌, Bool, true, false, List, [], ◌∷◌, ◌++◌, length, map, filter, find, Option, Some, None, refl, sym, ap, subst, arith, slice_get, slice_index_or, option_map, Contains, All, IfSome, ◌==◌, ◌&&◌}
 use Rattle.std.specs.List.{AllByRecursion, range_with_len}
 use Rattle.std.proofs.lemmas.List.Elements.{All-from_recursion}
 use Rattle.des_base.proofs.BoolLemmas.{otherwise, clash}
@@ -7,13 +7,13 @@ use Rattle.des_base.proofs.Elements.{cons_cases, none_in_nil, contains_at, at_pl
 use Rattle.des_base.specs.Lists.{numbers_below}
 use Rattle.des_base.specs.declared.TheConstants.{VAR_LIMIT}
 use Rattle.des_net.specs.Network.{Net, observable_events}
-use Rattle.log_order.specs.Log.{is_doubtful}
+use Rattle.log_order.specs.Log.{Log, is_doubtful}
 use Rattle.log_clauses.specs.Additions.{alarm_added, with_addition}
 use Rattle.log_clauses.specs.LogClauses.{chain, guard_literals, matching_events}
 use Rattle.log_clauses.specs.Decoded.{alarm_at, is_false_alarm}
 use Rattle.log_clauses.specs.LogNames.{first_meanings, ReadsInOrder}
 use Rattle.replay.specs.Explanation.{is_matching, has_any_label}
-use Rattle.run_clauses.proofs.Lists.{in_numbers}
+use Rattle.run_clauses.proofs.Lists.{from_numbers, in_numbers}
 use Rattle.log_clauses.proofs.Numbered.{ordered_literal, ordered_names}
 use Rattle.card_counter.specs.CounterState.{positive}
 use Rattle.log_encode.proofs.CodeLemmas.{empty_is_coded, grown_is_coded}
@@ -122,6 +122,23 @@ alarm_at_place (x ∷ alarms) (suc i) d h = alarm_at_place alarms i d (omega ari
 
 pub alarm_within : (code : CodedLog) (i : ℕ) (alarm : AlarmState) → IsCodedLog code → IsCodedAlarm code i alarm → AreWithinLimit (variables_of code.grid.steps alarm)
 alarm_within code i alarm coded is = omega (arith, is.within, coded.few)
+
+-- ---- the events that an alarm may stand for
+
+get_map : {X Y : Type 0} (f : X → Y) (xs : List X) (k : ℕ) → option_map f (slice_get xs k) ≡ slice_get (map f xs) k
+get_map f [] k = refl
+get_map f (x ∷ xs) zero = refl
+get_map f (x ∷ xs) (suc k) = get_map f xs k
+
+-- its links are of these events
+pub linked_is : (code : CodedLog) (i : ℕ) (alarm : AlarmState) (link : ℕ) → IsCodedAlarm code i alarm → option_map (λ (taken : Taken). taken.event) (slice_get alarm.takes link) ≡ slice_get (matching_events code.net code.log i) link
+linked_is code i alarm link is = get_map (λ (taken : Taken). taken.event) alarm.takes link ∙ ap (λ es. slice_get es link) is.events
+
+-- which are events of the network
+pub linked_known : (net : Net) (log : Log) (i link : ℕ) (found : Option ℕ) → found ≡ slice_get (matching_events net log i) link → IfSome found (λ e. e < length net.events)
+linked_known net log i link None is = tt
+linked_known net log i link (Some e) is =
+    from_numbers (length net.events) e (filter_from (λ x. is_matching net log x i) (numbers_below (length net.events)) e (contains_at (matching_events net log i) link e (sym is))).1
 
 -- ---- a draft of an alarm
 

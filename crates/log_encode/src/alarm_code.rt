@@ -1,5 +1,5 @@
 // What is kept of an alarm whose clauses are written.
-ghost use Rattle.std.specs.Prelude.{◌≡◌, ◌≤◌, length, map, IfOk};
+ghost use Rattle.std.specs.Prelude.{◌≡◌, ◌≤◌, length, map, option_map, slice_get, IfOk};
 ghost use Rattle.log_encode.specs.Written.{link_of};
 
 use crate::taken::Taken;
@@ -39,6 +39,16 @@ impl AlarmCode {
             }
         }
         None
+    }
+
+    // The event of a link, where there is one.
+    pub fn event_of(&self, link: u32) -> Option<EventId>
+        ensures { result ≡ option_map (λ taken. taken.event) (slice_get self.now.takes link) }
+    {
+        match self.takes.get(link as usize) {
+            Some(taken) => Some(taken.event),
+            None => None,
+        }
     }
 }
 

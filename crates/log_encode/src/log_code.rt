@@ -1,8 +1,8 @@
 // The code of an alarm log, which grows by drafts.
-ghost use Rattle.std.specs.Prelude.{◌≡◌, ◌<◌, ◌≤◌, ◌+◌, ◌*◌, ◌++◌, ◌∷◌, [], ℕ, Some, true, false, ◌&&◌, length, vec_len, vec_capacity, IfOk, OnOk, OnErr};
+ghost use Rattle.std.specs.Prelude.{◌≡◌, ◌<◌, ◌≤◌, ◌+◌, ◌*◌, ◌++◌, ◌∷◌, [], ℕ, Some, true, false, ◌&&◌, length, vec_len, vec_capacity, slice_get, IfOk, IfSome, OnOk, OnErr};
 ghost use Rattle.log_clauses.specs.Additions.{alarm_added, pair_added};
 ghost use Rattle.log_clauses.specs.Decoded.{alarm_at, is_false_alarm};
-ghost use Rattle.log_clauses.specs.LogClauses.{guard_literals};
+ghost use Rattle.log_clauses.specs.LogClauses.{guard_literals, matching_events};
 ghost use Rattle.log_clauses.specs.LogNames.{first_meanings};
 ghost use Rattle.prop_core.specs.Clauses.{value_in};
 ghost use Rattle.prop_core.specs.NamedClauses.{value_by};
@@ -279,6 +279,15 @@ impl LogCode {
         ensures sign { result.positive ≡ false }
     {
         Lit::new(self.done(alarm) + steps, false)
+    }
+
+    /// An event that an alarm may stand for, by its link: the first has number 0, and behind the last one there is none.
+    pub fn linked(&self, alarm: u32, link: u32) -> Option<EventId>
+        requires { alarm < length self.now.coded.log.alarms }
+        ensures event { result ≡ slice_get (matching_events self.now.coded.net self.now.coded.log alarm) link }
+        ensures known { IfSome result (λ event. event < length self.now.coded.net.events) }
+    {
+        self.alarms[alarm as usize].event_of(link)
     }
 
     /// That an alarm doesn't pass an event on in the step after `step` steps: the event of the link of this number, if there are such a link and step.

@@ -6,8 +6,8 @@ ghost use Rattle.log_encode.specs.Written.{rest_variable, taken_from, end_after,
 use crate::alarm_vars::AlarmVars;
 use des_base::{EventId, Memory, Name, VAR_LIMIT};
 use des_net::Network;
+use label_sets::LabelSet;
 use prop_core::Grid;
-use replay::has_any_label;
 use std::alloc::Global;
 
 // The end of the chain of an event that can be seen: the variable that says that it ends there, and the first of those by
@@ -52,9 +52,10 @@ pub fn taken_by(
     requires known { All (λ end. end.event < length net.now.events) ends.now }
     ensures { IfOk result (λ takes. takes.items ≡ taken_from net.now labels.now ends.now) }
 {
+    let wanted = LabelSet::of(labels);
     let mut takes = Vec::new(alloc);
     for end in ends {
-        if has_any_label(net, end.event, labels) {
+        if wanted.has_label_of(net, end.event) {
             takes.push(Taken {
                 event: end.event,
                 last: end.last,
