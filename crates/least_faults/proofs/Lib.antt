@@ -11,6 +11,7 @@ pub mod Bounded
 pub mod ColumnsBuilt
 pub mod Columns
 pub mod Beside
+pub mod CodeFor
 mod Drafts
 mod Reserving
 mod Determined

@@ -3,6 +3,7 @@ pub mod Bounds
 pub mod Columns
 pub mod LogCoding
 pub mod Parts
+pub mod Trying
 pub mod Growing
 pub mod Adding
 pub mod Evidence

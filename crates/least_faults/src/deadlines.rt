@@ -5,10 +5,11 @@
 // the alarms of a long chain: it matches some of them here and there, and each conflict says little. But that an alarm misses its deadline,
 // where those behind it keep theirs, is refuted by propagation alone, or nearly so, and what is learnt from it is short. So the solver is
 // advised to try that. No contract says that the advice is good.
-ghost use Rattle.std.specs.Prelude.{◌≡◌, ◌<◌, length, IfOk, IfSome, OnOk};
+ghost use Rattle.std.specs.Prelude.{◌≡◌, ◌<◌, length, IfOk, OnOk};
 ghost use Rattle.std.specs.List.{AllByRecursion};
-ghost use Rattle.log_order.specs.Log.{AreKnown};
 ghost use Rattle.least_faults.specs.Parts.{BelongTo};
+ghost use Rattle.least_faults.specs.Trying.{IsCodeFor};
+ghost use Rattle.log_order.specs.Log.{AreKnown};
 
 use crate::loose::{are_loose, push_unpassed};
 use crate::parts::Parts;
@@ -16,7 +17,7 @@ use crate::question::Question;
 use des_base::{CompId, EventId, Memory};
 use des_net::Network;
 use log_encode::LogCode;
-use log_order::{AlarmLog, has_label};
+use log_order::AlarmLog;
 use prop_core::Lit;
 use std::alloc::Global;
 
@@ -40,11 +41,11 @@ pub fn advise<R: Fn(u32) -> u64>(
 // That the alarms miss their deadlines, where these come before the last step: the last alarm of the log's order first. Then what is tried where all
 // are of one device and some in no order.
 pub fn missed_deadlines(question: Question<'_>, code: &LogCode) -> Result<Vec<Lit>, Memory>
-    requires { length code.now.coded.log.alarms ≡ length question.log.now.alarms }
+    requires { IsCodeFor question.net.now question.log.now code.now.coded }
 {
     let mut order = Vec::new(question.alloc);
     question.log.order(&mut order)?;
-    let devices = devices(question)?;
+    let devices = devices(question, code)?;
     let deadlines = deadlines(question, devices.as_slice(), order.as_slice(), code.steps())?;
     let mut missed = Vec::new(question.alloc);
     for place in (0..order.len()).rev() {
@@ -71,30 +72,57 @@ fn deadlines(
     requires order { AllByRecursion (λ alarm. alarm < length question.log.now.alarms) order.now }
     ensures { IfOk result (λ deadlines. length deadlines.items ≡ length question.entry.log.now.alarms) }
 {
-    question.log.is_whole();
+    let earlier = earlier_alarms(question)?;
     let mut deadlines = vec![in question.alloc; steps; devices.len()]?;
     for place in (0..order.len()).rev() {
-        hasten(
-            question.log,
-            devices,
-            order[place],
-            deadlines.as_mut_slice(),
-        );
+        let second = order[place] as usize;
+        hasten(&earlier[second], devices, second, deadlines.as_mut_slice());
     }
     Ok(deadlines)
 }
 
+// For each alarm, those that a pair puts before it.
+fn earlier_alarms(question: Question<'_>) -> Result<Vec<Vec<u32>>, Memory>
+    ensures { IfOk result (λ earlier. length earlier.items ≡ length question.entry.log.now.alarms) }
+{
+    question.log.is_whole();
+    let mut earlier = no_alarms(question.alloc, question.log.alarms())?;
+    put_earlier(question.log.pairs(), &mut earlier)?;
+    Ok(earlier)
+}
+
+// A list of no alarms, for each alarm.
+fn no_alarms(alloc: Global, alarms: u32) -> Result<Vec<Vec<u32>>, Memory>
+    ensures { IfOk result (λ lists. length lists.items ≡ alarms) }
+{
+    let mut lists = Vec::new(alloc);
+    for _ in 0..alarms {
+        lists.push(Vec::new(alloc))?;
+    }
+    Ok(lists)
+}
+
+// Puts the first alarm of each pair into the list of its second one.
+fn put_earlier(pairs: &[(u32, u32)], earlier: &mut Vec<Vec<u32>>) -> Result<(), Memory>
+    requires { AreKnown (length earlier.old.items) pairs.now }
+    ensures { OnOk result (length earlier.new.items ≡ length earlier.old.items) }
+{
+    for (first, second) in pairs {
+        earlier[*second as usize].push(*first)?;
+    }
+    Ok(())
+}
+
 // Lets the alarms that come before one in a pair be done by its deadline, or a step before it where events of both never share a step.
-fn hasten(log: &AlarmLog, devices: &[Vec<CompId>], second: u32, deadlines: &mut [u32])
+fn hasten(earlier: &[u32], devices: &[Vec<CompId>], second: usize, deadlines: &mut [u32])
     requires second { second < length deadlines.old }
     requires devices { length devices.now ≡ length deadlines.old }
-    requires known { AreKnown (length deadlines.old) log.now.pairs }
 {
-    let deadline = deadlines[second as usize];
-    for (first, other) in log.pairs() {
-        if *other == second {
-            let first = *first as usize;
-            let latest = if meet(&devices[first], &devices[second as usize]) {
+    let deadline = deadlines[second];
+    for first in earlier {
+        let first = *first as usize;
+        if first < deadlines.len() {
+            let latest = if meet(&devices[first], &devices[second]) {
                 deadline.saturating_sub(1)
             } else {
                 deadline
@@ -110,73 +138,58 @@ fn meet(first: &[CompId], second: &[CompId]) -> bool {
 }
 
 // For each alarm the components that each event touches that it may stand for: none where it is doubtful.
-pub fn devices(question: Question<'_>) -> Result<Vec<Vec<CompId>>, Memory>
+pub fn devices(question: Question<'_>, code: &LogCode) -> Result<Vec<Vec<CompId>>, Memory>
+    requires { IsCodeFor question.net.now question.log.now code.now.coded }
     ensures { IfOk result (λ devices. length devices.items ≡ length question.entry.log.now.alarms) }
 {
     let mut devices = Vec::new(question.alloc);
     for alarm in 0..question.log.alarms() {
-        devices.push(devices_of(question, alarm)?)?;
+        devices.push(devices_of(question, code, alarm)?)?;
     }
     Ok(devices)
 }
 
-fn devices_of(question: Question<'_>, alarm: u32) -> Result<Vec<CompId>, Memory>
-    requires { alarm < length question.log.now.alarms }
+fn devices_of(question: Question<'_>, code: &LogCode, alarm: u32) -> Result<Vec<CompId>, Memory>
+    requires code { IsCodeFor question.net.now question.log.now code.now.coded }
+    requires alarm { alarm < length question.log.now.alarms }
 {
-    match first_event(question, alarm) {
-        Some(event) if !question.log.is_maybe(alarm) => touched(question, alarm, event),
+    match code.linked(alarm, 0) {
+        Some(event) if !question.log.is_maybe(alarm) => touched(question, code, alarm, event),
         _ => Ok(Vec::new(question.alloc)),
     }
 }
 
 // The components of an event that each event touches that the alarm may stand for.
-fn touched(question: Question<'_>, alarm: u32, event: EventId) -> Result<Vec<CompId>, Memory>
+fn touched(
+    question: Question<'_>,
+    code: &LogCode,
+    alarm: u32,
+    event: EventId,
+) -> Result<Vec<CompId>, Memory>
+    requires code { IsCodeFor question.net.now question.log.now code.now.coded }
     requires alarm { alarm < length question.log.now.alarms }
     requires event { event < length question.net.now.events }
 {
     let mut touched = Vec::new(question.alloc);
     for part in question.net.event(event).parts.as_slice() {
-        if is_touched_by_each(question, alarm, part.comp) {
+        if is_touched_by_each(question.net, code, alarm, part.comp) {
             touched.push(part.comp)?;
         }
     }
     Ok(touched)
 }
 
-// The first event that an alarm may stand for.
-fn first_event(question: Question<'_>, alarm: u32) -> Option<EventId>
-    requires { alarm < length question.log.now.alarms }
-    ensures { IfSome result (λ event. event < length question.entry.net.now.events) }
-{
-    for number in 0..question.net.events() {
-        let event = EventId(number);
-        if may_be(question, alarm, event) {
-            return Some(event);
-        }
-    }
-    None
-}
-
 // Whether each event touches the component that the alarm may stand for.
-fn is_touched_by_each(question: Question<'_>, alarm: u32, comp: CompId) -> bool
-    requires { alarm < length question.log.now.alarms }
+fn is_touched_by_each(net: &Network, code: &LogCode, alarm: u32, comp: CompId) -> bool
+    requires net { code.now.coded.net ≡ net.now }
+    requires alarm { alarm < length code.now.coded.log.alarms }
 {
-    for number in 0..question.net.events() {
-        let event = EventId(number);
-        if may_be(question, alarm, event) && !question.net.touches(event, comp) {
-            return false;
+    for link in 0..u32::MAX {
+        match code.linked(alarm, link) {
+            Some(event) if net.touches(event, comp) => {}
+            Some(_) => return false,
+            None => break,
         }
     }
     true
-}
-
-// Whether an alarm may stand for an event: it has the event's label.
-pub fn may_be(question: Question<'_>, alarm: u32, event: EventId) -> bool
-    requires alarm { alarm < length question.log.now.alarms }
-    requires event { event < length question.net.now.events }
-{
-    match question.net.label(event) {
-        Some(label) => has_label(question.log.labels(alarm), label),
-        None => false,
-    }
 }

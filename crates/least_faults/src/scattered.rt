@@ -6,11 +6,13 @@
 // the devices. Without a bound there is nothing to be counted, and it would be in the way. No contract says that it is good to try this.
 ghost use Rattle.std.specs.Prelude.{◌≡◌, ◌<◌, ◌≤◌, length};
 ghost use Rattle.least_faults.specs.Parts.{BelongTo};
+ghost use Rattle.least_faults.specs.Trying.{IsCodeFor};
 
-use crate::deadlines::{devices, may_be, missed_deadlines};
+use crate::deadlines::{devices, missed_deadlines};
 use crate::parts::Parts;
 use crate::question::Question;
 use des_base::{CompId, EventId, Memory};
+use des_net::Network;
 use log_encode::LogCode;
 use prop_core::Lit;
 
@@ -36,9 +38,9 @@ pub fn advise_within<R: Fn(u32) -> u64>(question: Question<'_>, parts: &mut Part
 
 // What is tried, the missed deadlines first: none where alarms aren't scattered.
 fn tries_within(question: Question<'_>, code: &LogCode) -> Result<Option<Vec<Lit>>, Memory>
-    requires { length code.now.coded.log.alarms ≡ length question.log.now.alarms }
+    requires { IsCodeFor question.net.now question.log.now code.now.coded }
 {
-    let devices = devices(question)?;
+    let devices = devices(question, code)?;
     if !are_scattered(question, devices.as_slice()) {
         return Ok(None);
     }
@@ -67,9 +69,9 @@ fn push_by_device(
     code: &LogCode,
     tries: &mut Vec<Lit>,
 ) -> Result<(), Memory>
-    requires { length code.now.coded.log.alarms ≡ length question.log.now.alarms }
+    requires { IsCodeFor question.net.now question.log.now code.now.coded }
 {
-    let links = links_by_device(question)?;
+    let links = links_by_device(question, code)?;
     for place in (0..links.len()).rev() {
         push_steps(&links[place], code, question.log.alarms(), tries)?;
     }
@@ -98,39 +100,48 @@ fn push_steps(
 }
 
 // For each device the links of the events that touch it and none before it.
-fn links_by_device(question: Question<'_>) -> Result<Vec<Vec<Link>>, Memory> {
+fn links_by_device(question: Question<'_>, code: &LogCode) -> Result<Vec<Vec<Link>>, Memory>
+    requires { IsCodeFor question.net.now question.log.now code.now.coded }
+{
     let mut links = Vec::new(question.alloc);
     for _ in 0..question.net.components() {
         links.push(Vec::new(question.alloc))?;
     }
     for alarm in 0..question.log.alarms() {
-        push_links(question, alarm, &mut links)?;
+        push_links(question.net, code, alarm, &mut links)?;
     }
     Ok(links)
 }
 
 // Adds the links of an alarm.
-fn push_links(question: Question<'_>, alarm: u32, links: &mut [Vec<Link>]) -> Result<(), Memory>
-    requires { alarm < length question.log.now.alarms }
+fn push_links(
+    net: &Network,
+    code: &LogCode,
+    alarm: u32,
+    links: &mut [Vec<Link>],
+) -> Result<(), Memory>
+    requires net { code.now.coded.net ≡ net.now }
+    requires alarm { alarm < length code.now.coded.log.alarms }
 {
-    let mut number = 0_u32;
-    for event in 0..question.net.events() {
-        if may_be(question, alarm, EventId(event)) {
-            if let Some(own) = links.get_mut(first_device(question, EventId(event)) as usize) {
-                own.push(Link { alarm, number })?;
+    for number in 0..u32::MAX {
+        match code.linked(alarm, number) {
+            Some(event) => {
+                if let Some(own) = links.get_mut(first_device(net, event) as usize) {
+                    own.push(Link { alarm, number })?;
+                }
             }
-            number = number.saturating_add(1);
+            None => break,
         }
     }
     Ok(())
 }
 
 // The least number of a device that an event touches.
-fn first_device(question: Question<'_>, event: EventId) -> u32
-    requires { event < length question.net.now.events }
+fn first_device(net: &Network, event: EventId) -> u32
+    requires { event < length net.now.events }
 {
     let mut first = u32::MAX;
-    for part in question.net.event(event).parts.as_slice() {
+    for part in net.event(event).parts.as_slice() {
         first = first.min(part.comp.0);
     }
     first
