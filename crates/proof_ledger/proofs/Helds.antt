@@ -1,6 +1,5 @@
 -- Clauses that are held, as they come and go.
-use Rattle.std.proofs.Common.{◌≡◌, ◌∙◌, ℕ, zero, suc, ◌+◌, ◌<◌, ◌==◌, Bool, true, false, ◌||◌, ◌∷◌, [], List, refl, ap, sym, length, arith, subst, take, Some, slice_get, get_or, cond, add-one}
-use Rattle.std.specs.List.{list_any}
+use Rattle.std.proofs.Common.{◌≡◌, ◌∙◌, ℕ, zero, suc, ◌+◌, ◌==◌, Bool, true, false, ◌∷◌, [], List, refl, ap, sym, arith, subst, take, Some, slice_get, cond, add-one}
 use Rattle.std.proofs.lemmas.Bool.{eqb-true, eq-eqb}
 use Rattle.des_base.proofs.BoolLemmas.{differ}
 use Rattle.prop_core.specs.Clauses.{Clause}

@@ -1,5 +1,6 @@
 // Marks on literals.
 ghost use Rattle.std.specs.Prelude.{◌≡◌, ℕ, ◌==◌, true, false, [], ◌<◌, ◌^◌, vec_len, OnOk, OnErr, slice_index_or, if◌then◌else◌};
+ghost use Rattle.prop_core.specs.Clauses.{negation};
 ghost use Rattle.prop_core.specs.LiteralNumbers.{literal_number};
 ghost use Rattle.proof_ledger.specs.Marks.{AreMarked};
 
@@ -26,6 +27,39 @@ pub fn marked(marks: &[bool], lit: Lit) -> bool
     }
 }
 
+// Whether a literal is marked, and whether its negation is.
+#[derive(Clone, Copy)]
+pub struct MarkPair {
+    pub itself: bool,
+    pub negation: bool,
+}
+
+// The marks of a literal and of its negation, which stand side by side.
+pub fn mark_pair(marks: &[bool], lit: Lit) -> MarkPair
+    ensures itself { result.itself ≡ slice_index_or marks.now (literal_number lit) false }
+    ensures negation { result.negation ≡ slice_index_or marks.now (literal_number (negation lit)) false }
+{
+    let negative = 2 * lit.var as usize;
+    if negative + 1 >= marks.len() {
+        return MarkPair {
+            itself: marked(marks, lit),
+            negation: marked(marks, lit.negated()),
+        };
+    }
+    let (first, second) = (marks[negative], marks[negative + 1]);
+    if lit.positive {
+        MarkPair {
+            itself: second,
+            negation: first,
+        }
+    } else {
+        MarkPair {
+            itself: first,
+            negation: second,
+        }
+    }
+}
+
 // Marks a place, and makes room for it.
 pub fn mark(marks: &mut Vec<bool>, place: usize) -> Result<(), Memory>
     requires { place < 2 ^ 34 }
@@ -44,7 +78,8 @@ fn grow(marks: &mut Vec<bool>, place: usize) -> Result<(), Memory>
     ensures err { OnErr result (marks.new.items ≡ marks.old.items) }
 {
     if place >= marks.len() {
-        marks.resize(place + 1, false)?;
+        // the mark of its negation stands beside it
+        marks.resize(place + 2, false)?;
     }
     Ok(())
 }

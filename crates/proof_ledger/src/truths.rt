@@ -1,12 +1,12 @@
 // The truths of literals while hints are followed.
 ghost use Rattle.std.specs.Prelude.{◌≡◌, ℕ, ◌++◌, ◌∷◌, [], map, IfOk, OnOk, OnErr};
 ghost use Rattle.std.specs.Option.{option_copied};
-ghost use Rattle.prop_core.specs.Clauses.{negation, is_true};
+ghost use Rattle.prop_core.specs.Clauses.{negation, is_true, is_false};
 ghost use Rattle.prop_core.specs.Derivation.{standing, after_hint};
 ghost use Rattle.proof_ledger.specs.Following.{standing_of, progress_of};
 ghost use Rattle.proof_ledger.specs.Fronts.{front_with, front_standing};
 
-use crate::marks::{mark, marked, place, unmark_all};
+use crate::marks::{MarkPair, mark, mark_pair, place, unmark_all};
 use des_base::Memory;
 use prop_core::Lit;
 use std::alloc::Global;
@@ -56,6 +56,10 @@ impl Front {
     fn with(self, lit: Lit, is_false: bool, is_true: bool) -> Front
         ensures { result ≡ front_with self lit is_false is_true }
     {
+        // (Most literals are false, and change nothing of what is known.)
+        if is_false && !is_true {
+            return self;
+        }
         let mut front = self;
         front.all_false = self.all_false && is_false;
         front.any_true = self.any_true || is_true;
@@ -106,10 +110,12 @@ impl Truths {
         }
     }
 
-    fn has(&self, lit: Lit) -> bool
-        ensures { result ≡ is_true self.now lit }
+    // Whether the literal is true, and whether its negation is.
+    fn marks_of(&self, lit: Lit) -> MarkPair
+        ensures itself { result.itself ≡ is_true self.now lit }
+        ensures negation { result.negation ≡ is_false self.now lit }
     {
-        marked(&self.marks, lit)
+        mark_pair(&self.marks, lit)
     }
 
     fn take(&mut self, lit: Lit) -> Result<(), Memory>
@@ -151,7 +157,8 @@ impl Truths {
             wide: false,
         };
         for lit in clause {
-            front = front.with(*lit, self.has(lit.negated()), self.has(*lit));
+            let marks = self.marks_of(*lit);
+            front = front.with(*lit, marks.negation, marks.itself);
         }
         front.stands()
     }

@@ -1,6 +1,5 @@
 -- Nothing is looked at yet, then one more literal, and then none is left.
-use Rattle.std.proofs.Common.{◌∙◌, ap}
-use Rattle.prop_core.specs.Clauses.{is_true}
+use Rattle.std.proofs.Common.{◌∙◌}
 use Rattle.proof_ledger.proofs.Fronts.{front-begin, front-more, front-end}
 use Rattle.proof_ledger.proofs.truths.Truths.standing.Goals as goal
 
@@ -9,8 +8,8 @@ loop-lit-init c = front-begin c.args.self.now c.args.clause.now
 
 pub loop-lit-preserved : goal.loop-lit-preserved
 loop-lit-preserved c =
-    front-more c.args.self.now c.loop-lit.front c.with-front.result c.args.clause.now c.loop-lit.lit-index _ c.has.result c.has-in-loop-lit.result
-    c.loop-lit-test.true (c.has.ensures ∙ ap (is_true c.args.self.now) c.negated.ensures) c.has-in-loop-lit.ensures c.with-front.ensures
+    front-more c.args.self.now c.loop-lit.front c.with-front.result c.args.clause.now c.loop-lit.lit-index _ c.marks_of-marks.result.negation c.marks_of-marks.result.itself
+    c.loop-lit-test.true c.marks_of-marks.ensures.negation c.marks_of-marks.ensures.itself c.with-front.ensures
     ∙ c.loop-lit.invariant
 
 pub returns : goal.returns
