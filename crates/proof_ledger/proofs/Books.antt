@@ -1,5 +1,5 @@
 -- A book and how it is kept.
-use Rattle.std.proofs.Common.{◌≡◌, ◌∙◌, ℕ, zero, suc, ◌+◌, ◌-◌, ◌<◌, ◌++◌, ◌∷◌, [], List, refl, ap, sym, length, arith, subst, append_assoc, take, drop, add-zero, Option, Some, None, slice_get, get_or}
+use Rattle.std.proofs.Common.{◌≡◌, ◌∙◌, ℕ, zero, suc, ◌+◌, ◌<◌, ◌++◌, ◌∷◌, [], List, refl, ap, sym, length, arith, subst, append_assoc, take, drop, add-zero, Option, Some, None, slice_get, get_or}
 use Rattle.std.specs.Prelude.{MatchOption}
 use Rattle.std.proofs.lemmas.Grind.{common_steps}
 use Rattle.std.proofs.lemmas.List.{append-nil}
@@ -41,7 +41,7 @@ pub record Joined (entries : List KeptEntry) (clauses : List Clause) (hints : Li
   pub book_is : book_of entries clauses hints ≡ book
   pub count : length clauses ≡ length (clauses_of book)
 
-is_book : (entries : List KeptEntry) (clauses : List Clause) (hints : List (List ℕ)) (book : List BookEntry) → IsBook entries clauses hints book → Joined entries clauses hints book
+pub is_book : (entries : List KeptEntry) (clauses : List Clause) (hints : List (List ℕ)) (book : List BookEntry) → IsBook entries clauses hints book → Joined entries clauses hints book
 is_book entries clauses hints book h =
     let same : book_of entries clauses hints ≡ book = rw (h.entries_are, h.clauses_are, h.hints_are) (book_of-kept 0 book) in
     record {

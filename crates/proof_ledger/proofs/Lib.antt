@@ -1,5 +1,6 @@
 mod Hints
 mod Books
+mod Beginnings
 pub mod Checks
 pub mod AxiomLists
 pub mod BookTruth

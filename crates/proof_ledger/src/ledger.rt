@@ -1,5 +1,5 @@
 // The book of derived clauses.
-ghost use Rattle.std.specs.Prelude.{◌≡◌, ◌<◌, ◌≤◌, ◌+◌, ◌-◌, ◌^◌, ◌++◌, ◌∷◌, [], length, max, slice_get, Some, OnOk, OnErr, IfOk, IfErr};
+ghost use Rattle.std.specs.Prelude.{◌≡◌, ◌<◌, ◌≤◌, ◌+◌, ◌-◌, ◌^◌, ◌++◌, ◌∷◌, [], length, map, max, slice_get, Some, OnOk, OnErr, IfOk, IfErr};
 ghost use Rattle.prop_core.specs.Derivation.{derive, clause_numbered};
 ghost use Rattle.proof_ledger.specs.Book.{axiomatic, learnt, final, mark, clauses_of, hints_of, DerivesFrom, IsValidBook, IsEntryAt};
 ghost use Rattle.proof_ledger.specs.Kept.{kept, made};
@@ -57,6 +57,32 @@ impl Ledger {
             entries: Vec::new(alloc),
             truths: Truths::new(alloc),
         }
+    }
+
+    /// The book that has these clauses as axioms. It keeps the list itself, so that no clause is held twice.
+    pub fn of_axioms(alloc: Global, clauses: Clauses) -> Result<Ledger, Memory>
+        ensures { IfOk result (λ book. book.entries ≡ map axiomatic clauses.clauses) }
+    {
+        let count = clauses.len();
+        let Some(room) = clauses.spare_clauses().checked_add(count as usize) else {
+            return Err(Memory);
+        };
+        let mut hints = Pieces::new(alloc);
+        let mut entries = Vec::new(alloc);
+        hints.reserve(room, 0)?;
+        entries.reserve(room)?;
+        for before in 0..count {
+            hints.push_reserved(&[]);
+            let number = clauses.number(ClauseId(before + 1));
+            entries.push(KeptEntry::Axiom(number)).unwrap();
+        }
+        Ok(Ledger {
+            alloc,
+            clauses,
+            hints,
+            entries,
+            truths: Truths::new(alloc),
+        })
     }
 
     /// Begins an empty book, with no room.
