@@ -76,6 +76,8 @@ fn write_scale<R: Fn(u32) -> u64>(
     let mut clauses = Clauses::new(alloc);
     let scale = Scale::new(inputs, AMOUNTS, &mut parts.vars, &mut clauses)?;
     push_axioms(book, &clauses);
+    // (The book has them now, so the list leaves its room to the watches.)
+    drop(clauses);
     parts.solver.adopt(book);
     Ok(scale)
 }
