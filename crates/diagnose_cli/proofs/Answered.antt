@@ -18,7 +18,8 @@ use Rattle.endings.specs.Endings.{HasStatus, status_of_end, status_of_kind, stat
 use Rattle.endings.specs.Files.{Loads, StopsAt, WithFile}
 use Rattle.endings.specs.Texts.{FileKind, limit_of, fault_of_text}
 use Rattle.diagnose_cli.specs.Commands.{files_of, command_of}
-use Rattle.diagnose_cli.specs.Due.{MayReply, halts, Says, Closes, InOrder, MayAnswer}
+use Rattle.diagnose_cli.specs.Due.{halts, Says, Closes, InOrder, MayAnswer}
+use Rattle.diagnose_cli.specs.Tasks.{MayReply, single_task}
 use Rattle.diagnose_cli.specs.Outcomes.{IsPut, Outcome, ShowsReply}
 use Rattle.diagnose_cli.specs.Rows.{AreRead, AreTold, CallsWith, ReadsFiles}
 use Rattle.diagnose_cli.specs.Run.{Ends}
@@ -257,10 +258,16 @@ same_texts held words i (text ∷ texts) (other ∷ others) read told long =
     cc
 
 -- so a command with one reply replies over them, as many as it has files
-pub reply_over : (o : Outcome) (c : Single) (texts : List (List ℕ)) → Ends o → CallsWith o (One c) texts → length (files_of (One c)) ≡ length texts → (IsStopStatus o.status → ⊥) → ShowsReply o (MayReply c o.words o.book texts)
-reply_over o c texts ends asks many answers =
+pub may_over : (o : Outcome) (c : Single) (texts : List (List ℕ)) → Ends o → CallsWith o (One c) texts → length (files_of (One c)) ≡ length texts → (IsStopStatus o.status → ⊥) → ShowsReply o (MayReply c o.words o.book texts)
+may_over o c texts ends asks many answers =
     let over = said_over o c ends asks.command answers in
     subst (λ (ts : List (List ℕ)). ShowsReply o (MayReply c o.words o.book ts)) (same_texts o.loads.held o.words 1 over.texts texts over.held asks.told (over.long ∙ many)) over.tells
+
+pub as_said : (o : Outcome) (c : Single) (texts : List (List ℕ)) → ShowsReply o (MayReply c o.words o.book texts) → ShowsReply o ((single_task c).says o.words o.book texts)
+as_said o c texts tells = record { reply = tells.reply; says = tells.says.says; shown = tells.shown; put = tells.put }
+
+pub reply_over : (o : Outcome) (c : Single) (texts : List (List ℕ)) → Ends o → CallsWith o (One c) texts → length (files_of (One c)) ≡ length texts → (IsStopStatus o.status → ⊥) → ShowsReply o ((single_task c).says o.words o.book texts)
+reply_over o c texts ends asks many answers = as_said o c texts (may_over o c texts ends asks many answers)
 
 -- and one with several says what it may
 pub says_over : (o : Outcome) (c : Command) (texts : List (List ℕ)) → CallsWith o c texts → length (files_of c) ≡ length texts → (over : ToldOver o c) → Says c o.words o.book texts over.told

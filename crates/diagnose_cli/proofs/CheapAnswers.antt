@@ -1,5 +1,5 @@
 -- What `cheapest` answers where its files are read.
-use Rattle.std.proofs.Common.{◌≤◌, ℕ, List, length, Option, Some, None, arith}
+use Rattle.std.proofs.Common.{◌≢◌, ◌^◌, ◌∙◌, [], ◌∷◌, ap, sym, inr, ◌≤◌, ℕ, List, length, Option, Some, None, arith}
 use Rattle.cost_least.specs.Answers.{CostAsked, IsCheapFound, IsRunAt}
 use Rattle.answers.specs.declared.cheap.Cheap.{Cheap}
 use Rattle.answers.specs.declared.cheap.Cheap.TheVariants.{Found, Absent, Dear, Undecided}
@@ -8,8 +8,8 @@ use Rattle.des_net.specs.Network.{Net, IsNetwork}
 use Rattle.event_costs.specs.CostText.{IsTableOf, cost_of}
 use Rattle.event_costs.specs.Prices.{cost_at}
 use Rattle.inquiries.specs.declared.question.Case.{Case}
-use Rattle.pricing.specs.LeastCost.{CostAlike, LeavesCosts}
-use Rattle.pricing.proofs.PricedBooks.{leaves_alike, priced_alike}
+use Rattle.pricing.specs.LeastCost.{CostAlike, IsPricedBy, LeavesCosts, cost_variables}
+use Rattle.pricing.proofs.PricedBooks.{leaves_alike, priced_alike, unpriced_is_small}
 use Rattle.least_faults.proofs.KnownEvents.{run_known}
 use Rattle.log_csv.specs.LogText.{log_of}
 use Rattle.log_order.specs.Adding.{IsLog}
@@ -25,7 +25,9 @@ use Rattle.report.specs.Replies.{CheapEventsKnown, text_of_run}
 use Rattle.diagnose_cli.specs.declared.command.Command.TheVariants.{One}
 use Rattle.diagnose_cli.specs.declared.command.Single.TheVariants.{Cheapest}
 use Rattle.endings.specs.declared.ending.Kind.{Kind}
-use Rattle.diagnose_cli.specs.CheapReplies.{CheapRunReadsBack, SaysCheap}
+use Rattle.diagnose_cli.specs.CheapReplies.{CheapRunReadsBack, SaysCheap, kind_of_cheap}
+use Rattle.diagnose_cli.specs.Tasks.{MayReply, Reply}
+use Rattle.endings.specs.declared.ending.Kind.TheVariants.{Undecided as LeftOpen}
 use Rattle.diagnose_cli.specs.FilesRead.{AreReadThen, IsCaseRead}
 use Rattle.diagnose_cli.specs.Rows.{Leaves}
 use Rattle.diagnose_cli.proofs.MatchedNames.{printable}
@@ -65,7 +67,7 @@ module _ (q : CostAsked) where
 pub as_text : (net : Net) (prices : List ℕ) (table : List (Option ℕ)) → IsTableOf net prices table → CostAlike net (cost_at table) (cost_of net prices)
 as_text net prices table of = λ e fault. of.each e
 
-pub says_of_text : (net : Net) (prices : List ℕ) (table : List (Option ℕ)) (alarms : Log) (n budget : ℕ) (book : List BookEntry) (reply : Kind × List ℕ) → IsTableOf net prices table → SaysCheap net (cost_at table) alarms n budget book reply → SaysCheap net (cost_of net prices) alarms n budget book reply
+says_of_text : (net : Net) (prices : List ℕ) (table : List (Option ℕ)) (alarms : Log) (n budget : ℕ) (book : List BookEntry) (reply : Kind × List ℕ) → IsTableOf net prices table → SaysCheap net (cost_at table) alarms n budget book reply → SaysCheap net (cost_of net prices) alarms n budget book reply
 says_of_text net prices table alarms n budget book reply of says = record {
   answer = says.answer;
   priced = priced_alike net (cost_at table) (cost_of net prices) (as_text net prices table of) alarms n budget book says.answer says.priced;
@@ -73,10 +75,28 @@ says_of_text net prices table alarms n budget book reply of says = record {
   is = says.is;
 }
 
+-- a budget that is large enough decides
+module _ (net : Net) (cost : ℕ → ℕ) (alarms : Log) (n budget : ℕ) (book : List BookEntry) where
+  none_open : (answer : Cheap) → IsPricedBy net cost alarms n budget book answer → 3 ^ cost_variables net alarms n ≤ budget → kind_of_cheap answer ≢ LeftOpen
+  none_open (Found priced) holds enough is = cc
+  none_open Absent holds enough is = cc
+  none_open (Dear run) holds enough is = cc
+  none_open (Undecided lo best) holds enough is =
+      let small = unpriced_is_small net cost alarms n budget book lo best holds in
+      omega (arith, small, enough)
+
+  cheap_decided : (reply : Reply) → SaysCheap net cost alarms n budget book reply → 3 ^ cost_variables net alarms n ≤ budget → reply.0 ≢ LeftOpen
+  cheap_decided reply says enough is = none_open says.answer says.priced enough (sym (ap (λ (r : Reply). r.0) says.is) ∙ is)
+
+pub may_price : (n budget : ℕ) (words : List (List ℕ)) (book : List BookEntry) (text alarms prices : List ℕ) (table : List (Option ℕ)) (reply : Reply) → IsTableOf (network_of text) prices table → SaysCheap (network_of text) (cost_at table) (log_of alarms) n budget book reply → MayReply (Cheapest n budget) words book (text ∷ alarms ∷ prices ∷ []) reply
+may_price n budget words book text alarms prices table reply of h =
+    let says = says_of_text (network_of text) prices table (log_of alarms) n budget book reply of h in
+    record { says = says; decided = cheap_decided (network_of text) (cost_of (network_of text) prices) (log_of alarms) n budget book reply says }
+
 -- ---- what it leaves
 
 pub prices_left : (n budget : ℕ) (words : List (List ℕ)) (book : List BookEntry) (case : Case) (table : List (Option ℕ)) → LeavesCosts case.net (cost_at table) case.log n budget book
     → (texts : List (List ℕ)) → AreReadThen (λ ts (c : Case). IsCaseRead ts c.net c.log) (λ (c : Case) prices t. IsTableOf c.net prices t) texts case table → Leaves (One (Cheapest n budget)) words texts book
 prices_left n budget words book case table left texts read =
     over_third (λ ts. Leaves (One (Cheapest n budget)) words ts book) texts (λ net log. LeavesCosts net (cost_at table) log n budget book) (λ net prices t. IsTableOf net prices t) table
-    (λ text alarms prices of h. leaves_alike (network_of text) (cost_at table) (cost_of (network_of text) prices) (as_text (network_of text) prices table of) (log_of alarms) n budget book h) case read left
+    (λ text alarms prices of h same. inr (leaves_alike (network_of text) (cost_at table) (cost_of (network_of text) prices) (as_text (network_of text) prices table of) (log_of alarms) n budget book h)) case read left

@@ -1,12 +1,11 @@
 -- What the status of a question of costs tells.
-use Rattle.std.proofs.Common.{◌≡◌, ◌≤◌, ◌<◌, ◌^◌, ℕ, List, [], ◌∷◌, Option, Some, None, IfSome, sym, ◌∙◌, subst, arith, refl}
+use Rattle.std.proofs.Common.{◌≡◌, ◌<◌, ℕ, List, [], ◌∷◌, Option, Some, None, IfSome, sym, ◌∙◌, subst, arith, refl}
 use Rattle.cost_least.specs.Answers.{CostAsked, IsKnownAbove, IsPriced}
 use Rattle.answers.specs.declared.cheap.Cheap.{Cheap}
 use Rattle.answers.specs.declared.cheap.Cheap.TheVariants.{Found, Absent, Dear, Undecided}
 use Rattle.answers.specs.declared.cheap.Priced.{Priced}
 use Rattle.des_base.specs.Outside.{Took}
-use Rattle.pricing.specs.LeastCost.{IsPricedBy, cost_variables}
-use Rattle.pricing.proofs.PricedBooks.{unpriced_is_small}
+use Rattle.pricing.specs.LeastCost.{IsPricedBy}
 use Rattle.least_faults.proofs.Freshness.{fresh_closed}
 use Rattle.log_csv.specs.LogText.{log_of}
 use Rattle.model_text.specs.ModelFaults.{network_of}
@@ -98,14 +97,6 @@ module _ (o : Outcome) (q : CostAsked) (budget : ℕ) where
         put = put;
       }
 
-  small_of : (answer : Cheap) → 11 ≡ status_of_kind (kind_of_cheap answer) → Shown answer → 3 ^ cost_variables q.net q.log q.steps ≤ budget → ⊥
-  small_of (Found priced) is shown enough = absurd (omega arith)
-  small_of Absent is shown enough = absurd (omega arith)
-  small_of (Dear run) is shown enough = absurd (omega arith)
-  small_of (Undecided lo best) is shown enough =
-      let small = unpriced_is_small q.net q.cost q.log q.steps budget o.book lo best shown in
-      omega (arith, small, enough)
-
 module _ (o : Outcome) (ends : Ends o) (n budget : ℕ) (text alarms prices : List ℕ) (asks : CallsWith o (One (Cheapest n budget)) (text ∷ alarms ∷ prices ∷ [])) where
   pub cheapest : o.status ≡ 0 → TellsCheapest o (cost_asked text alarms prices n)
   cheapest is =
@@ -126,8 +117,3 @@ module _ (o : Outcome) (ends : Ends o) (n budget : ℕ) (text alarms prices : Li
   unpriced is =
       let tells = told o n budget text alarms prices ends asks (between o.status 11 is (omega arith) (omega arith)) in
       unpriced_of o (cost_asked text alarms prices n) budget tells.answer (sym is ∙ tells.shown) tells.priced tells.put
-
-  pub priced_by : 3 ^ cost_variables (network_of text) (log_of alarms) n ≤ budget → o.status ≡ 11 → ⊥
-  priced_by enough is =
-      let tells = told o n budget text alarms prices ends asks (between o.status 11 is (omega arith) (omega arith)) in
-      small_of o (cost_asked text alarms prices n) budget tells.answer (sym is ∙ tells.shown) tells.priced enough

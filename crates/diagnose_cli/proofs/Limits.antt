@@ -3,6 +3,7 @@ use Rattle.std.proofs.Common.{◌≡◌, ◌∙◌, ◌≤◌, ◌<◌, ℕ, Lis
 use Rattle.std.specs.Prelude.{if◌then◌else◌, option_map}
 use Rattle.least_faults.specs.declared.TheConstants.{MOST_SIZE}
 use Rattle.endings.specs.declared.ending.Kind.{Kind}
+use Rattle.endings.specs.declared.stop.Stop.{Stop}
 use Rattle.endings.specs.declared.stop.Stop.TheVariants.{Large}
 use Rattle.endings.specs.Transcripts.{Ending, IsOne, Transcript, once}
 use Rattle.diagnose_cli.proofs.Ones.{is_one}
@@ -28,3 +29,12 @@ ends_within size k says e is small h = ends_by size None says e (within_limit si
 
 pub ends_said : (size k : ℕ) (P : (Kind × List ℕ) → Type 0) (reply : Kind × List ℕ) → k ≡ size → k ≤ MOST_SIZE → P reply → EndsBySize size (IsOne P) (once (Ok reply))
 ends_said size k P reply is small says = ends_within size k (IsOne P) (once (Ok reply)) is small (is_one P reply says)
+
+-- what holds of each reply that may be said
+pub stop_weaker : (o : Option Stop) (P Q : (Kind × List ℕ) → Type 0) (e : Ending) → ((reply : Kind × List ℕ) → P reply → Q reply) → MatchOption o (IsOkAnd e (IsOne P)) (λ stop. e ≡ Err stop) → MatchOption o (IsOkAnd e (IsOne Q)) (λ stop. e ≡ Err stop)
+stop_weaker None P Q (Ok told) f h = record { reply = h.reply; says = f h.reply h.says; alone = h.alone; ends = h.ends }
+stop_weaker None P Q (Err stop) f h = absurd h
+stop_weaker (Some stop) P Q e f h = h
+
+pub ends_weaker : (size : ℕ) (P Q : (Kind × List ℕ) → Type 0) (e : Ending) → ((reply : Kind × List ℕ) → P reply → Q reply) → EndsBySize size (IsOne P) e → EndsBySize size (IsOne Q) e
+ends_weaker size P Q e f h = stop_weaker (option_map (λ n. Large n) (above_limit size)) P Q e f h

@@ -8,8 +8,9 @@ use Rattle.endings.specs.declared.ending.Kind.{Kind}
 use Rattle.endings.specs.declared.stop.Stop.{Stop}
 use Rattle.endings.specs.declared.stop.Stop.TheVariants.{Faulty, Usage}
 use Rattle.endings.specs.declared.stop.FaultyText.{FaultyText}
+use Rattle.diagnose_cli.specs.Tasks.{MayReply}
 use Rattle.diagnose_cli.specs.Commands.{files_of, is_called, read_command}
-use Rattle.diagnose_cli.specs.Due.{AnswersSpelled, MayReply, MayAnswer, Closes, Due, InOrder, Says, halts}
+use Rattle.diagnose_cli.specs.Due.{AnswersSpelled, MayAnswer, Closes, Due, InOrder, Says, halts}
 use Rattle.endings.specs.Files.{Loads}
 use Rattle.endings.specs.Texts.{FileKind, fault_of_text}
 use Rattle.diagnose_cli.proofs.Spelled.{spelled_due}

@@ -1,15 +1,17 @@
 -- Words that ask a question, or none.
-use Rattle.std.proofs.Common.{◌≡◌, ◌∙◌, true, false, ℕ, List, [], ◌∷◌, Option, Err, ap, refl, subst, sym}
+use Rattle.std.proofs.Common.{inr, ◌≡◌, ◌∙◌, true, false, ℕ, List, [], ◌∷◌, Option, Err, ap, refl, subst, sym}
 use Rattle.std.specs.Prelude.{Bool, cond, option_map}
 use Rattle.des_base.specs.CommandWords.{word_at}
 use Rattle.diagnose_cli.specs.Due.{AnswersSpelled, Closes, EndsBySize, MayAnswer}
 use Rattle.diagnose_cli.proofs.Left.{LeftBy, empty_left}
 use Rattle.endings.specs.Transcripts.{Ending, IsOne}
-use Rattle.diagnose_cli.specs.Questions.{AnswersTo, RepliesTo, is_request, named_questions, request_among, request_by, request_of, AreWordsOf, NamedQuestion, NoRequest, Request, Requests}
+use Rattle.diagnose_cli.specs.Questions.{AnswersTo, HasEnough, IsRequestAnd, LeavesRequest, RepliesTo, is_request, named_questions, request_among, request_by, request_of, AreWordsOf, NamedQuestion, NoRequest, Request, Requests}
 use Rattle.diagnose_cli.specs.declared.command.Command.TheVariants.{One}
 use Rattle.diagnose_cli.specs.declared.command.Single.TheVariants.{Ask}
 use Rattle.diagnose_cli.specs.FilesRead.{IsCaseRead}
-use Rattle.diagnose_cli.specs.Rows.{Leaves, LeavesRequest}
+use Rattle.diagnose_cli.specs.Rows.{Leaves}
+use Rattle.diagnose_cli.specs.Tasks.{MayReply, Reply}
+use Rattle.diagnose_cli.proofs.Limits.{ends_weaker}
 use Rattle.diagnose_cli.proofs.ReadOver.{over_case}
 use Rattle.des_net.specs.Network.{Net}
 use Rattle.inquiries.specs.Begun.{LeavesQuestion, MayLearn}
@@ -50,11 +52,19 @@ pub left_asked : (steps : ℕ) (words : List (List ℕ)) (book : List BookEntry)
     → (texts : List (List ℕ)) (net : Net) (log : Log) → IsCaseRead texts net log → LeavesQuestion net log steps (MayLearn (question.budget word)) book → Leaves (One (Ask steps)) words texts book
 left_asked steps words book question word asked texts net log read left =
     over_case (λ ts. Leaves (One (Ask steps)) words ts book) texts (λ n l. LeavesQuestion n l steps (MayLearn (question.budget word)) book)
-    (λ text alarms h. subst (λ (r : Request). LeavesRequest r (network_of text) (log_of alarms) steps book) (sym asked) h) net log read left
+    (λ text alarms h same. inr (subst (λ (r : Request). LeavesRequest r (network_of text) (log_of alarms) steps book) (sym asked) h)) net log read left
+
+-- a reply to the question is one to the words
+may_answer : (steps : ℕ) (words : List (List ℕ)) (book : List BookEntry) (question : NamedQuestion) (word : question.Word) → request_of words ≡ Requests question word
+    → (text alarms : List ℕ) (reply : Reply) → AnswersTo question word (network_of text) (log_of alarms) steps book reply → MayReply (Ask steps) words book (text ∷ alarms ∷ []) reply
+may_answer steps words book question word asked text alarms reply answers = record {
+  says = subst (λ (r : Request). RepliesTo r steps book (text ∷ alarms ∷ []) reply) (sym asked) answers;
+  decided = λ enough. answers.decided (subst (λ (r : Request). IsRequestAnd r (λ q w. HasEnough q w (network_of text) (log_of alarms) steps)) asked enough);
+}
 
 -- and how a question ends so do they
 pub closes_asked : (steps : ℕ) (words : List (List ℕ)) (book : List BookEntry) (question : NamedQuestion) (word : question.Word) → request_of words ≡ Requests question word
     → (texts : List (List ℕ)) (net : Net) (log : Log) → IsCaseRead texts net log → (e : Ending) → EndsBySize (question_size net log steps) (IsOne (AnswersTo question word net log steps book)) e → Closes (One (Ask steps)) words book texts e
 closes_asked steps words book question word asked texts net log read e ends =
     over_case (λ ts. Closes (One (Ask steps)) words book ts e) texts (λ n l. EndsBySize (question_size n l steps) (IsOne (AnswersTo question word n l steps book)) e)
-    (λ text alarms h. subst (λ (r : Request). EndsBySize (question_size (network_of text) (log_of alarms) steps) (IsOne (RepliesTo r steps book (text ∷ alarms ∷ []))) e) (sym asked) h) net log read ends
+    (λ text alarms h. ends_weaker (question_size (network_of text) (log_of alarms) steps) (AnswersTo question word (network_of text) (log_of alarms) steps book) (MayReply (Ask steps) words book (text ∷ alarms ∷ [])) e (may_answer steps words book question word asked text alarms) h) net log read ends

@@ -26,14 +26,14 @@ use Rattle.endings.specs.declared.ending.Kind.{Kind}
 use Rattle.endings.specs.declared.ending.Kind.TheVariants.{Done, Rejected, Absent as NoneThere, Undecided as LeftOpen, Many as TooMany, Nothing, Ambiguous}
 use Rattle.endings.specs.Endings.{status_of_kind}
 use Rattle.inquiries.specs.Diagnosed.{IsDiagnosed}
-use Rattle.diagnose_cli.specs.Due.{MayReply}
-use Rattle.diagnose_cli.specs.Questions.{diagnose_question, request_of, AnswersTo, HasEnough, IsRequestAnd, NamedQuestion, NoRequest, RepliesTo, Request, Requests}
+use Rattle.diagnose_cli.specs.Tasks.{single_task}
+use Rattle.diagnose_cli.specs.Questions.{diagnose_question, request_of, AnswersTo, NamedQuestion, RepliesTo, Request, Requests}
 use Rattle.diagnose_cli.specs.Replies.{kind_of_found, reply_of_checked, AnswersQuestion, IsEnough, SaysFound}
 use Rattle.diagnose_cli.specs.Outcomes.{Outcome, ShowsReply}
 use Rattle.diagnose_cli.specs.Rows.{CallsDiagnose, CallsWith, TellsLeast, TellsMany, TellsUndecided}
 use Rattle.diagnose_cli.specs.Run.{Ends}
 use Rattle.diagnose_cli.proofs.Requested.{asked_for}
-use Rattle.diagnose_cli.proofs.Answered.{AreHeld, IsStopStatus, between, reply_over, said_over, same_text}
+use Rattle.diagnose_cli.proofs.Answered.{AreHeld, IsStopStatus, as_said, between, reply_over, said_over, same_text}
 
 -- ---- a proof that is verified
 
@@ -42,7 +42,7 @@ yes : (axioms : List Clause) (steps : List ProofStep) (checked : Checked) → ch
 yes axioms steps Verified is status = verified_refutes axioms steps is
 yes axioms steps (Rejected line kind) is status = absurd (omega arith)
 
-of_checked : (o : Outcome) (formula : List ℕ) (texts : List (List ℕ)) → o.loads.held (word_at o.words 1) ≡ Some formula → o.status ≡ 0 → AreHeld o.loads.held o.words 1 texts → ShowsReply o (MayReply Check o.words o.book texts)
+of_checked : (o : Outcome) (formula : List ℕ) (texts : List (List ℕ)) → o.loads.held (word_at o.words 1) ≡ Some formula → o.status ≡ 0 → AreHeld o.loads.held o.words 1 texts → ShowsReply o ((single_task Check).says o.words o.book texts)
     → IsUnsatisfiable (formula_of formula).clauses
 of_checked o formula [] there zero held tells = absurd tells.says
 of_checked o formula (text ∷ []) there zero held tells = absurd tells.says
@@ -55,7 +55,7 @@ of_checked o formula (text ∷ proof ∷ other ∷ texts) there zero held tells 
 pub refuted : (o : Outcome) → Ends o → (formula : List ℕ) → CallsWith o (One Check) (formula ∷ []) → o.status ≡ 0 → IsUnsatisfiable (formula_of formula).clauses
 refuted o ends formula asks zero =
     let over = said_over o Check ends asks.command (λ stop. omega (arith, zero, stop.low)) in
-    of_checked o formula over.texts asks.told.0 zero over.held over.tells
+    of_checked o formula over.texts asks.told.0 zero over.held (as_said o Check over.texts over.tells)
 
 -- ---- a question about a log
 
@@ -162,17 +162,9 @@ module _ (o : Outcome) (ends : Ends o) where
       let tells = found_told o steps budget text alarms ends asks (λ stop. between o.status _ is (omega arith) (omega arith) stop) in
       many_of o (network_of text) (log_of alarms) steps budget tells.found (sym is ∙ tells.shown) tells.holds.diagnosed tells.put
 
-  -- a budget that is large enough decides each question
-  pub decided : (steps : ℕ) (text alarms : List ℕ) → CallsWith o (One (Ask steps)) (text ∷ alarms ∷ []) → IsRequestAnd (request_of o.words) (λ question word. HasEnough question word (network_of text) (log_of alarms) steps) → o.status ≡ 11 → ⊥
-  decided steps text alarms asks enough is = by (request_of o.words) refl enough
-    where
-      by : (request : Request) → request_of o.words ≡ request → IsRequestAnd request (λ question word. HasEnough question word (network_of text) (log_of alarms) steps) → ⊥
-      by NoRequest request enough = enough
-      by (Requests question word) request enough =
-          let tells = answer_told o steps question word text alarms ends request asks (λ stop. between o.status _ is (omega arith) (omega arith) stop) in
-          tells.says.decided enough (left_open o tells is)
-
+  -- a budget that is large enough decides
   pub diagnosed : (steps budget : ℕ) (text alarms : List ℕ) → CallsDiagnose o steps budget text alarms → IsEnough budget (network_of text) (log_of alarms) steps → o.status ≡ 11 → ⊥
   diagnosed steps budget text alarms asks enough is =
-      decided steps text alarms asks.calls
-      (subst (λ (r : Request). IsRequestAnd r (λ question word. HasEnough question word (network_of text) (log_of alarms) steps)) (sym (asked_for diagnose_question o.words (λ last. refl) budget asks.words)) enough) is
+      let request = asked_for diagnose_question o.words (λ last. refl) budget asks.words in
+      let tells = answer_told o steps diagnose_question budget text alarms ends request asks.calls (λ stop. between o.status _ is (omega arith) (omega arith) stop) in
+      tells.says.decided enough (left_open o tells is)

@@ -1,5 +1,5 @@
 -- What `twin` answers where its model is read.
-use Rattle.std.proofs.Common.{◌≡◌, ◌≤◌, ◌<◌, ℕ, List, [], ◌∷◌, length, Option, Some, None, Err, IfSome, IsOkAnd, IsSomeAnd, MatchOption, sym, subst, refl, arith}
+use Rattle.std.proofs.Common.{inr, ◌≡◌, ◌≤◌, ◌<◌, ℕ, List, [], ◌∷◌, length, Option, Some, None, Err, IfSome, IsOkAnd, IsSomeAnd, MatchOption, sym, subst, refl, arith}
 use Rattle.std.specs.Prelude.{All, is_none, map}
 use Rattle.std.proofs.lemmas.List.{length-map}
 use Rattle.std.proofs.lemmas.List.Elements.{All-nil, All-cons}
@@ -32,6 +32,9 @@ use Rattle.diagnose_cli.specs.Due.{Closes, EndsBySize, above_limit, stop_by}
 use Rattle.diagnose_cli.specs.FilesRead.{IsModelRead}
 use Rattle.diagnose_cli.specs.Rows.{Leaves}
 use Rattle.diagnose_cli.specs.TwinReplies.{LeavesOfWord, SaysOfWord, SaysTwin, TwinRunsReadBack}
+use Rattle.diagnose_cli.specs.Tasks.{MayReply}
+use Rattle.model_text.specs.ModelFaults.{network_of}
+use Rattle.diagnose_cli.proofs.Limits.{stop_weaker}
 use Rattle.diagnose_cli.proofs.ReadOver.{over_model}
 use Rattle.diagnose_cli.proofs.RunLengths.{pieces_length}
 
@@ -77,7 +80,7 @@ module _ (n d budget : ℕ) (words : List (List ℕ)) (book : List BookEntry) wh
   Ends net e = MatchOption (stop_by (is_none (fault_event_of net (word_at words 2))) (above_limit (twin_size net n d))) (IsOkAnd e (IsOne (SaysOfWord net (word_at words 2) n d budget book))) (λ stop. e ≡ Err stop)
 
   over_text : (texts : List (List ℕ)) (net : Net) (e : Ending) → IsModelRead texts net → Ends net e → Closes (One (Twin n d budget)) words book texts e
-  over_text texts net e read h = over_model (λ ts. Closes (One (Twin n d budget)) words book ts e) texts (λ m. Ends m e) (λ text well ends. ends) net read h
+  over_text texts net e read h = over_model (λ ts. Closes (One (Twin n d budget)) words book ts e) texts (λ m. Ends m e) (λ text well ends. stop_weaker _ (SaysOfWord (network_of text) (word_at words 2) n d budget book) (MayReply (Twin n d budget) words book (text ∷ [])) e (λ reply says. record { says = says; decided = λ enough. absurd enough }) ends) net read h
 
   pub lacks : (texts : List (List ℕ)) (net : Net) → IsModelRead texts net → None ≡ fault_event_of net (word_at words 2) → Closes (One (Twin n d budget)) words book texts (Err NoFault)
   lacks texts net read is =
@@ -96,5 +99,5 @@ module _ (n d budget : ℕ) (words : List (List ℕ)) (book : List BookEntry) wh
 
     pub fault_left : LeavesTwins net fault n d budget book → Leaves (One (Twin n d budget)) words texts book
     fault_left left =
-        over_model (λ ts. Leaves (One (Twin n d budget)) words ts book) texts (λ m. LeavesOfWord m (word_at words 2) n d budget book) (λ text well h. h) net read
+        over_model (λ ts. Leaves (One (Twin n d budget)) words ts book) texts (λ m. LeavesOfWord m (word_at words 2) n d budget book) (λ text well h same. inr h) net read
         (subst (λ (o : Option ℕ). MatchOption o (book ≡ []) (λ f. LeavesTwins net f n d budget book)) named left)

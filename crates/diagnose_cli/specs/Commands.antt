@@ -1,5 +1,5 @@
 -- The commands, the words that call each one, and the files that it needs.
-use Rattle.std.specs.Prelude.{ℕ, ◌+◌, ◌≤◌, ⊤, List, [], ◌∷◌, length, codes, Bool, true, ◌&&◌, nat_eq, Option, Some, None, if◌then◌else◌, bytes_eq, option_map, option_and_then}
+use Rattle.std.specs.Prelude.{ℕ, ◌+◌, ◌≤◌, ⊤, List, length, codes, Bool, true, ◌&&◌, nat_eq, Option, Some, None, if◌then◌else◌, bytes_eq, option_map, option_and_then}
 use Rattle.des_base.specs.CommandWords.{word_at}
 use Rattle.des_base.specs.Numbers.{number_up_to}
 use Rattle.gen_plant.specs.Plant.{most_units}
@@ -8,7 +8,8 @@ use Rattle.diagnose_cli.specs.declared.command.Command.TheVariants.{One, Session
 use Rattle.diagnose_cli.specs.declared.command.Single.TheVariants.{Trace, Show, Replay, Check, Ask, GenerateModel, GenerateLog, Bench, Twin, Cheapest}
 use Rattle.diagnose_cli.specs.Questions.{is_request, request_of}
 use Rattle.diagnose_cli.specs.Words.{limits_of, most_number, most_steps, units_of}
-use Rattle.endings.specs.Texts.{FileKind, model, log, script, run, cnf, lrat, costs}
+use Rattle.endings.specs.Texts.{FileKind}
+use Rattle.diagnose_cli.specs.Tasks.{task_of}
 
 -- this many words, of which the first is the name
 abbrev pub calls : List (List ℕ) → List ℕ → ℕ → Bool
@@ -82,18 +83,7 @@ IsWithinBounds c = HasFewSteps c × HasFewUnits c
 
 -- the files of a command, in the order of the words
 abbrev pub files_of : Command → List FileKind
-files_of (One Trace) = model ∷ run ∷ []
-files_of (One Show) = model ∷ []
-files_of (One (Replay steps)) = model ∷ log ∷ run ∷ []
-files_of (One Check) = cnf ∷ lrat ∷ []
-files_of (One (Ask steps)) = model ∷ log ∷ []
-files_of (One (GenerateModel units start)) = []
-files_of (One (GenerateLog units start)) = []
-files_of (One (Bench units start steps budget)) = []
-files_of (One (Twin steps after budget)) = model ∷ []
-files_of (One (Cheapest steps budget)) = model ∷ log ∷ costs ∷ []
-files_of (Session steps budget) = model ∷ script ∷ []
-files_of (Verdicts steps budget) = model ∷ log ∷ []
+files_of c = (task_of c).files
 
 -- how many words it looks at behind those of its files: `twin` at that of the event, and a question at the others
 abbrev pub more_words : Command → ℕ

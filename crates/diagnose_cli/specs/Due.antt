@@ -1,56 +1,21 @@
 -- What may come for the words of a command line: a stop by the first cause in order, what the command says, or out of memory.
-use Rattle.std.specs.Prelude.{◌≡◌, ℕ, ◌+◌, List, [], ◌∷◌, ◌++◌, Bool, false, cond, nat_lt, is_none, option_map, Option, Some, None, if◌then◌else◌, Err, IfErr, IsOkAnd, MatchOption}
+use Rattle.std.specs.Prelude.{◌≡◌, ℕ, ◌+◌, List, [], ◌∷◌, ◌++◌, Bool, cond, nat_lt, option_and_then, option_map, Option, Some, None, if◌then◌else◌, Err, IfErr, IsOkAnd, MatchOption}
 use Rattle.des_base.specs.CommandWords.{word_at}
-use Rattle.cost_least.specs.Costs.{cost_size}
-use Rattle.event_costs.specs.CostText.{cost_of, fault_event_of}
-use Rattle.gen_plant.specs.Plant.{plant_net, plant_log}
-use Rattle.model_text.specs.ModelFaults.{network_of}
 use Rattle.least_faults.specs.declared.TheConstants.{MOST_SIZE}
-use Rattle.log_order.specs.Log.{no_log}
-use Rattle.log_csv.specs.LogText.{log_of}
-use Rattle.log_csv.specs.ScriptText.{script_of}
 use Rattle.proof_ledger.specs.Book.{BookEntry}
-use Rattle.replay.specs.QuestionSize.{question_size}
 use Rattle.diagnose_cli.specs.declared.command.Command.{Command}
-use Rattle.diagnose_cli.specs.declared.command.Command.TheVariants.{One, Session, Verdicts}
-use Rattle.diagnose_cli.specs.declared.command.Single.{Single}
-use Rattle.diagnose_cli.specs.declared.command.Single.TheVariants.{Trace, Show, Replay, Check, Ask, GenerateModel, GenerateLog, Bench, Twin, Cheapest}
-use Rattle.endings.specs.declared.ending.Kind.{Kind}
+use Rattle.diagnose_cli.specs.declared.command.Command.TheVariants.{Session}
 use Rattle.endings.specs.declared.stop.Stop.{Stop}
 use Rattle.endings.specs.declared.stop.Stop.TheVariants.{Usage, Faulty, NoFault, Large}
-use Rattle.endings.specs.Transcripts.{Ending, IsOne, OrMemory, Transcript}
+use Rattle.endings.specs.Transcripts.{Ending, OrMemory, Transcript}
 use Rattle.endings.specs.Files.{Loads, WithFile}
 use Rattle.endings.specs.Texts.{FileKind, limit_of, fault_of_text}
+use Rattle.diagnose_cli.specs.Tasks.{task_of}
 use Rattle.diagnose_cli.specs.Commands.{command_of, files_of, is_called}
-use Rattle.diagnose_cli.specs.CheapReplies.{SaysCheap}
-use Rattle.diagnose_cli.specs.Questions.{RepliesTo, request_of}
-use Rattle.diagnose_cli.specs.Replies.{SaysBenched, SaysChecked, SaysModel, SaysReplayed, SaysTraced, reply_of_log}
-use Rattle.diagnose_cli.specs.SessionReplies.{IsSession}
-use Rattle.diagnose_cli.specs.TwinReplies.{SaysOfWord}
-use Rattle.diagnose_cli.specs.VerdictReplies.{IsVerdicts}
-use Rattle.twin_test.specs.Twins.{twin_size}
 
--- the reply that a command may give by its words and over the bytes of its files, where it leaves this book
-abbrev pub MayReply : Single → List (List ℕ) → List BookEntry → List (List ℕ) → (Kind × List ℕ) → Type 0
-MayReply Trace words book (text ∷ steps ∷ []) reply = SaysTraced text steps reply
-MayReply Show words book (text ∷ []) reply = SaysModel (network_of text) reply
-MayReply (Replay steps) words book (text ∷ alarms ∷ events ∷ []) reply = SaysReplayed steps text alarms events reply
-MayReply Check words book (formula ∷ proof ∷ []) reply = SaysChecked formula proof reply
-MayReply (Ask steps) words book files reply = RepliesTo (request_of words) steps book files reply
-MayReply (GenerateModel units start) words book [] reply = SaysModel (plant_net units) reply
-MayReply (GenerateLog units start) words book [] reply = reply ≡ reply_of_log (plant_log units start)
-MayReply (Bench units start steps budget) words book [] reply = SaysBenched units start steps budget book reply
-MayReply (Twin steps after budget) words book (text ∷ []) reply = SaysOfWord (network_of text) (word_at words 2) steps after budget book reply
-MayReply (Cheapest steps budget) words book (text ∷ alarms ∷ prices ∷ []) reply = SaysCheap (network_of text) (cost_of (network_of text) prices) (log_of alarms) steps budget book reply
-MayReply _ _ _ _ reply = ⊥
-
--- What a command may say by its words and over the bytes of its files: its one reply, those to the rows of a script, or those about a log and on each fault event.
+-- what a command may say by its words and over the bytes of its files: its one reply, those to the rows of a script, or those about a log and on each fault event
 abbrev pub Says : Command → List (List ℕ) → List BookEntry → List (List ℕ) → Transcript → Type 0
-Says (One c) words book files told = IsOne (MayReply c words book files) told
-Says (Session steps budget) words book (text ∷ lines ∷ []) told = IsSession (network_of text) steps budget (script_of lines) book told
-Says (Session steps budget) words book _ told = ⊥
-Says (Verdicts steps budget) words book (text ∷ alarms ∷ []) told = IsVerdicts (network_of text) (log_of alarms) steps budget book told
-Says (Verdicts steps budget) words book _ told = ⊥
+Says c words book texts told = (task_of c).says words book texts told
 
 -- the size, where it is above the limit
 abbrev pub above_limit : ℕ → Option ℕ
@@ -58,18 +23,11 @@ above_limit size = if nat_lt MOST_SIZE size then Some size else None
 
 -- the size of the question that a command asks over the bytes of its files, where it is above the limit: of a session that of the empty log
 abbrev pub too_large : Command → List (List ℕ) → Option ℕ
-too_large (One (Ask steps)) (text ∷ alarms ∷ []) = above_limit (question_size (network_of text) (log_of alarms) steps)
-too_large (One (Bench units start steps budget)) [] = above_limit (question_size (plant_net units) (plant_log units start) steps)
-too_large (One (Cheapest steps budget)) (text ∷ alarms ∷ prices ∷ []) = above_limit (cost_size (network_of text) (log_of alarms) steps)
-too_large (One (Twin steps after budget)) (text ∷ []) = above_limit (twin_size (network_of text) steps after)
-too_large (Session steps budget) (text ∷ lines ∷ []) = above_limit (question_size (network_of text) no_log steps)
-too_large (Verdicts steps budget) (text ∷ alarms ∷ []) = above_limit (question_size (network_of text) (log_of alarms) steps)
-too_large _ _ = None
+too_large c texts = option_and_then above_limit ((task_of c).size texts)
 
 -- a twin question is about a fault event, and its word names none
 abbrev pub lacks_fault : Command → List (List ℕ) → List (List ℕ) → Bool
-lacks_fault (One (Twin steps after budget)) words (text ∷ []) = is_none (fault_event_of (network_of text) (word_at words 2))
-lacks_fault _ words _ = false
+lacks_fault c words texts = (task_of c).lacks_fault words texts
 
 -- the stop by these two causes, of which the first goes before the second
 abbrev pub stop_by : Bool → Option ℕ → Option Stop

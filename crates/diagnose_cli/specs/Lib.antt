@@ -1,13 +1,14 @@
 pub mod FilesRead
 pub mod ProofText
 pub mod Words
+pub mod Replies
 pub mod Questions
-pub mod Commands
 pub mod TwinReplies
 pub mod CheapReplies
-pub mod Replies
 pub mod SessionReplies
 pub mod VerdictReplies
+pub mod Tasks
+pub mod Commands
 pub mod Due
 pub mod Deciding
 pub mod Outcomes

@@ -3,6 +3,7 @@ use Rattle.std.specs.Prelude.{◌≡◌, ◌≢◌, ℕ, ⊤, List, [], ◌∷�
 use Rattle.des_base.specs.CommandWords.{word_at}
 use Rattle.des_base.specs.Numbers.{number_up_to}
 use Rattle.des_net.specs.Network.{Net}
+use Rattle.inquiries.specs.Begun.{LeavesQuestion, MayLearn}
 use Rattle.log_csv.specs.LogText.{log_of}
 use Rattle.log_order.specs.Log.{Log}
 use Rattle.model_text.specs.ModelFaults.{network_of}
@@ -92,3 +93,9 @@ pub record AnswersTo (question : NamedQuestion) (word : question.Word) (net : Ne
 abbrev pub RepliesTo : Request → ℕ → List BookEntry → List (List ℕ) → (Kind × List ℕ) → Type 0
 RepliesTo asked n book (text ∷ alarms ∷ []) reply = IsRequestAnd asked (λ question word. AnswersTo question word (network_of text) (log_of alarms) n book reply)
 RepliesTo asked n book _ reply = ⊥
+
+-- ---- what is left in the book
+
+-- nothing, or a book whose axioms are those of a question about network and log, and no more learnt than its budget says
+abbrev pub LeavesRequest : Request → Net → Log → ℕ → List BookEntry → Type 0
+LeavesRequest request net log n book = IfRequest request (λ question word. LeavesQuestion net log n (MayLearn (question.budget word)) book)

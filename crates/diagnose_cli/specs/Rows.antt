@@ -1,13 +1,10 @@
 -- What each command answers, by its words and the bytes that the shelf holds under the names of its files.
-use Rattle.std.specs.Prelude.{◌≡◌, ◌≢◌, ℕ, ◌+◌, ◌<◌, ◌≤◌, ⊤, List, [], ◌∷◌, ◌++◌, length, Option, Some, None, IfSome}
+use Rattle.std.specs.Prelude.{cond, ◌≡◌, ◌≢◌, ℕ, ◌+◌, ◌<◌, ◌≤◌, ⊤, List, [], ◌∷◌, ◌++◌, length, Option, Some, None, IfSome}
 use Rattle.alarm_session.specs.Session.{Stage}
 use Rattle.des_base.specs.CommandWords.{word_at}
 use Rattle.des_base.specs.Outside.{Took}
 use Rattle.des_net.specs.Network.{Net}
-use Rattle.event_costs.specs.CostText.{cost_of}
-use Rattle.gen_plant.specs.Plant.{plant_net, plant_log}
-use Rattle.inquiries.specs.Begun.{HasAskedWithin, LeavesQuestion, MayLearn}
-use Rattle.pricing.specs.LeastCost.{LeavesCosts}
+use Rattle.inquiries.specs.Begun.{IsEmptyOr}
 use Rattle.answers.specs.Explanations.{IsExplanation}
 use Rattle.least_faults.specs.Answers.{asked_last, HasConflict}
 use Rattle.answers.specs.declared.found.Best.{Best}
@@ -25,18 +22,17 @@ use Rattle.prop_core.specs.VariableNames.{Meaning}
 use Rattle.replay.specs.Explanation.{NeedsFaults, IsLeast, IsAbsent, IsMany}
 use Rattle.replay.specs.QuestionSize.{variable_bound}
 use Rattle.report.specs.Replies.{text_of_found}
-use Rattle.verdict_telling.specs.Left.{LeavesVerdicts}
 use Rattle.diagnose_cli.specs.declared.command.Command.{Command}
-use Rattle.diagnose_cli.specs.declared.command.Command.TheVariants.{One, Session, Verdicts}
+use Rattle.diagnose_cli.specs.declared.command.Command.TheVariants.{One, Session}
 use Rattle.diagnose_cli.specs.declared.command.Single.{Single}
-use Rattle.diagnose_cli.specs.declared.command.Single.TheVariants.{Trace, Show, Replay, Check, Ask, GenerateModel, GenerateLog, Bench, Twin, Cheapest}
+use Rattle.diagnose_cli.specs.declared.command.Single.TheVariants.{Trace, Show, Replay, Check, Ask, GenerateModel, GenerateLog, Bench}
 use Rattle.endings.specs.Texts.{FileKind, limit_of, fault_of_text}
 use Rattle.diagnose_cli.specs.Commands.{command_of, files_of}
-use Rattle.diagnose_cli.specs.Questions.{AreWordsOf, Request, IfRequest, request_of, diagnose_question}
+use Rattle.diagnose_cli.specs.Questions.{AreWordsOf, diagnose_question}
 use Rattle.diagnose_cli.specs.Replies.{IsEnough}
 use Rattle.diagnose_cli.specs.SessionReplies.{HasReplies}
-use Rattle.diagnose_cli.specs.TwinReplies.{LeavesOfWord}
-use Rattle.diagnose_cli.specs.Due.{MayReply, halts}
+use Rattle.diagnose_cli.specs.Tasks.{MayReply, task_of}
+use Rattle.diagnose_cli.specs.Due.{halts}
 use Rattle.diagnose_cli.specs.Outcomes.{Outcome, IsPut, IsUnbroken, ShowsReply}
 
 -- ---- the files of a command
@@ -170,18 +166,9 @@ pub record DiagnoseRows (o : Outcome) : Type 0 where
 
 -- ---- what is left in the book
 
--- nothing, or a book whose axioms are those of a question about network and log, and no more learnt than its budget says
-abbrev pub LeavesRequest : Request → Net → Log → ℕ → List BookEntry → Type 0
-LeavesRequest request net log n book = IfRequest request (λ question word. LeavesQuestion net log n (MayLearn (question.budget word)) book)
-
--- Of a command that asks one question: nothing, or a book whose axioms are those of the question by its words and over the bytes of its files. It was asked once at most with its budget, and without one nothing was asked. Of `twin` and `cheapest`: nothing, or a book in which the question stands, answered, left open, or not opened. Of `verdicts`: nothing, or a book that begins with the question of the log, and behind which fault events were judged in order.
+-- Of a command that asks a question, over as many texts as it has files: nothing, or what its task says.
 abbrev pub Leaves : Command → List (List ℕ) → List (List ℕ) → List BookEntry → Type 0
-Leaves (One (Ask steps)) words (text ∷ alarms ∷ []) book = LeavesRequest (request_of words) (network_of text) (log_of alarms) steps book
-Leaves (One (Bench units start steps budget)) words [] book = LeavesQuestion (plant_net units) (plant_log units start) steps (HasAskedWithin budget) book
-Leaves (One (Twin steps after budget)) words (text ∷ []) book = LeavesOfWord (network_of text) (word_at words 2) steps after budget book
-Leaves (One (Cheapest steps budget)) words (text ∷ alarms ∷ prices ∷ []) book = LeavesCosts (network_of text) (cost_of (network_of text) prices) (log_of alarms) steps budget book
-Leaves (Verdicts steps budget) words (text ∷ alarms ∷ []) book = LeavesVerdicts (network_of text) (log_of alarms) steps budget book
-Leaves _ _ _ book = ⊤
+Leaves c words texts book = cond (task_of c).asks (length texts ≡ length (files_of c) → IsEmptyOr ((task_of c).leaves words texts) book) ⊤
 
 -- so it is over whatever bytes the shelf tells, and whatever the status
 abbrev pub LeftRow : Outcome → Type 0

@@ -1,11 +1,10 @@
 -- What the whole run does.
-use Rattle.std.specs.Prelude.{◌≡◌, ◌≢◌, ◌⊎◌, ℕ, List, [], ◌∷◌, ◌≤◌, codes, None, IfSome, IsSomeAnd, Bool, true, false}
+use Rattle.std.specs.Prelude.{◌≡◌, ◌≢◌, ◌⊎◌, ℕ, List, [], ◌∷◌, ◌≤◌, codes, None, IfSome, IsSomeAnd, Bool, false}
 use Rattle.des_base.specs.Outside.{Rose, Took}
 use Rattle.des_base.specs.CommandWords.{word_at}
 use Rattle.telling.specs.Lines.{line_with_number}
 use Rattle.diagnose_cli.specs.declared.command.Command.{Command}
-use Rattle.diagnose_cli.specs.declared.command.Command.TheVariants.{One, Session, Verdicts}
-use Rattle.diagnose_cli.specs.declared.command.Single.TheVariants.{Ask, Bench, Twin, Cheapest}
+use Rattle.diagnose_cli.specs.Tasks.{task_of}
 use Rattle.diagnose_cli.specs.Commands.{command_of, file_count, files_of}
 use Rattle.diagnose_cli.specs.Due.{Due, MayCome, StopsEmpty}
 use Rattle.diagnose_cli.specs.Outcomes.{Outcome, IsUnbroken}
@@ -56,13 +55,7 @@ pub record Ran (o : Outcome) (rose : Type 0) : Type 0 where
 
 -- the command asks a question
 abbrev pub is_question : Command → Bool
-is_question (One (Ask steps)) = true
-is_question (One (Bench units start steps budget)) = true
-is_question (One (Twin steps after budget)) = true
-is_question (One (Cheapest steps budget)) = true
-is_question (Session steps budget) = true
-is_question (Verdicts steps budget) = true
-is_question _ = false
+is_question c = (task_of c).asks
 
 -- the words call no command that asks a question
 abbrev pub AsksNone : List (List ℕ) → Type 0

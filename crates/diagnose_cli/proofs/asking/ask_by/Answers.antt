@@ -1,8 +1,6 @@
 -- By what the inquiry leaves.
 use Rattle.std.proofs.Common.{List, inl, inr}
-use Rattle.des_net.specs.Network.{Net}
-use Rattle.inquiries.specs.Begun.{HasQuestion, IsEmptyOr, LeavesQuestion, MayLearn}
-use Rattle.log_order.specs.Log.{Log}
+use Rattle.inquiries.specs.Begun.{HasQuestion, IsEmptyOr, MayLearn}
 use Rattle.proof_ledger.specs.Book.{BookEntry}
 use Rattle.diagnose_cli.proofs.asking.ask_by.Goals as goal
 

@@ -1,5 +1,5 @@
 -- By a session, or by the one reply that was due.
-use Rattle.std.proofs.Common.{◌≡◌, [], false, IfSome, Some, Err, refl, sym, ◌∙◌, ap}
+use Rattle.std.proofs.Common.{inr, ◌≡◌, [], false, IfSome, Some, Err, refl, sym, ◌∙◌, ap}
 use Rattle.diagnose_cli.specs.Commands.{command_of, files_of, read_command}
 use Rattle.diagnose_cli.specs.Due.{Due, HasNotBegun, StopsEmpty}
 use Rattle.endings.specs.Files.{loads}
@@ -83,7 +83,7 @@ returns-in-None-clause-left g c = none_left _ (none_called c.args.words.now (sym
 
 pub returns-in-Some-Session-clause-left : goal.returns-in-Some-Session-clause-left
 returns-in-Some-Session-clause-left g c =
-    spelled_left _ (Session c.in-Some-Session.steps c.in-Some-Session.budget) (sym c.read_command.ensures ∙ c.in-Some-Session.is ∙ ap Some c.in-Some-Session.field-0-is) (λ texts told. tt)
+    spelled_left _ (Session c.in-Some-Session.steps c.in-Some-Session.budget) (sym c.read_command.ensures ∙ c.in-Some-Session.is ∙ ap Some c.in-Some-Session.field-0-is) (λ texts told same. inr tt)
 
 pub returns-in-Some-Verdicts-clause-left : goal.returns-in-Some-Verdicts-clause-left
 returns-in-Some-Verdicts-clause-left g c =

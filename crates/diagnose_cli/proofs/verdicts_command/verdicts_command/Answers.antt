@@ -1,5 +1,5 @@
 -- By its two files, and then by what is told.
-use Rattle.std.proofs.Common.{Err, List, subst, sym}
+use Rattle.std.proofs.Common.{inr, Err, List, subst, sym}
 use Rattle.std.specs.Prelude.{⊤}
 use Rattle.des_base.specs.Outside.{Rose}
 use Rattle.des_net.specs.Network.{Net}
@@ -54,7 +54,7 @@ returns-in-Ok-clause-left g c =
     let budget = c.args.limits.budget in
     let read = c.in-Ok.ensures.read in
     left_over (g.F.Shelf.held c.args.shelf.now) (Verdicts steps budget) words book read.texts read.bytes
-    (over_case (λ texts. Leaves (Verdicts steps budget) words texts book) read.texts (λ (net : Net) (log : Log). LeavesVerdicts net log steps budget book) (λ text alarms h. h) c.in-Ok.case.net c.in-Ok.case.log read.are c.judge_case-status.ensures.left)
+    (over_case (λ texts. Leaves (Verdicts steps budget) words texts book) read.texts (λ (net : Net) (log : Log). LeavesVerdicts net log steps budget book) (λ text alarms h same. inr h) c.in-Ok.case.net c.in-Ok.case.log read.are c.judge_case-status.ensures.left)
 
 pub returns-in-Err-clause-left : goal.returns-in-Err-clause-left
 returns-in-Err-clause-left g c texts told =

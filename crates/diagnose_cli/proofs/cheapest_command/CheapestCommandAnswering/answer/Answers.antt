@@ -1,10 +1,10 @@
 -- By the size of the question, and what is answered.
-use Rattle.std.proofs.Common.{◌≡◌, ◌≤◌, ◌<◌, ℕ, List, Option, Err, Ok, sym, subst, arith}
+use Rattle.std.proofs.Common.{[], ◌∷◌, ◌≡◌, ◌≤◌, ◌<◌, ℕ, List, Option, Err, Ok, sym, subst, arith}
 use Rattle.cost_least.specs.Costs.{cost_size}
 use Rattle.des_net.specs.Network.{Net}
 use Rattle.endings.specs.Transcripts.{IsOne, once}
 use Rattle.endings.specs.declared.stop.Stop.TheVariants.{Large}
-use Rattle.event_costs.specs.CostText.{IsTableOf, cost_of}
+use Rattle.event_costs.specs.CostText.{IsTableOf}
 use Rattle.event_costs.specs.Prices.{cost_at}
 use Rattle.least_faults.specs.declared.TheConstants.{MOST_SIZE}
 use Rattle.log_csv.specs.LogText.{log_of}
@@ -16,7 +16,8 @@ use Rattle.diagnose_cli.specs.declared.command.Single.TheVariants.{Cheapest}
 use Rattle.diagnose_cli.specs.CheapReplies.{SaysCheap}
 use Rattle.diagnose_cli.specs.Due.{Closes}
 use Rattle.diagnose_cli.specs.Rows.{Leaves}
-use Rattle.diagnose_cli.proofs.CheapAnswers.{prices_left, says_of_text}
+use Rattle.diagnose_cli.specs.Tasks.{MayReply}
+use Rattle.diagnose_cli.proofs.CheapAnswers.{may_price, prices_left}
 use Rattle.diagnose_cli.proofs.Left.{empty_left}
 use Rattle.diagnose_cli.proofs.Limits.{ends_large, ends_said}
 use Rattle.diagnose_cli.proofs.Orders.{memory_free}
@@ -30,7 +31,7 @@ returns-then-size-gt-MOST_SIZE-clause-closes c texts read _ =
     let book = c.args.book.now.entries in
     let k = c.cost_size-size.result in
     over_third (λ ts. Closes (One (Cheapest n budget)) c.args._words.now book ts (Err (Large k))) texts (λ (net : Net) (log : Log). (k ≡ cost_size net log n) × (MOST_SIZE < k))
-    (λ (net : Net) prices (table : List (Option ℕ)). IsTableOf net prices table) c.args.files.now.table (λ text alarms prices of h. ends_large (cost_size (network_of text) (log_of alarms) n) k (IsOne (SaysCheap (network_of text) (cost_of (network_of text) prices) (log_of alarms) n budget book)) h.0 h.1) c.args.files.now.case read
+    (λ (net : Net) prices (table : List (Option ℕ)). IsTableOf net prices table) c.args.files.now.table (λ text alarms prices of h. ends_large (cost_size (network_of text) (log_of alarms) n) k (IsOne (MayReply (Cheapest n budget) c.args._words.now book (text ∷ alarms ∷ prices ∷ []))) h.0 h.1) c.args.files.now.case read
     (c.cost_size-size.ensures.size, omega (arith, c.if-size-gt-MOST_SIZE.true))
 
 pub returns-in_err-reply_to_costs-clause-closes : goal.returns-in_err-reply_to_costs-clause-closes
@@ -47,7 +48,7 @@ returns-clause-closes c texts read _ =
     over_third (λ ts. Closes (One (Cheapest n budget)) c.args._words.now book ts (once (Ok reply))) texts
     (λ (net : Net) (log : Log). (k ≡ cost_size net log n) × (k ≤ MOST_SIZE) × SaysCheap net (cost_at table) log n budget book reply) (λ (net : Net) prices (t : List (Option ℕ)). IsTableOf net prices t) table
     (λ text alarms prices of h.
-    ends_said (cost_size (network_of text) (log_of alarms) n) k (SaysCheap (network_of text) (cost_of (network_of text) prices) (log_of alarms) n budget book) reply h.0 h.1 (says_of_text (network_of text) prices table (log_of alarms) n budget book reply of h.2))
+    ends_said (cost_size (network_of text) (log_of alarms) n) k (MayReply (Cheapest n budget) c.args._words.now book (text ∷ alarms ∷ prices ∷ [])) reply h.0 h.1 (may_price n budget c.args._words.now book text alarms prices table reply of h.2))
     c.args.files.now.case read (c.cost_size-size.ensures.size, omega (arith, c.if-size-gt-MOST_SIZE.false), c.in_ok-reply_to_costs.ensures.says)
 
 pub reply_to_costs-requires-clause-within : goal.reply_to_costs-requires-clause-within

@@ -19,5 +19,5 @@ returns-in_err-check_proof-clause-closes c texts read = memory_free _ _ c.from_r
 pub returns-clause-closes : goal.returns-clause-closes
 returns-clause-closes c texts read never =
     let reply = c.in_ok-check_proof.field-0 in
-    over_proof (λ ts. Closes (One Check) c.args._words.now c.args._book.now.entries ts (once (Ok reply))) texts (λ (f : Formula) (steps : List ProofStep). reply ≡ reply_of_checked (check_proof f.clauses steps)) (λ text steps is. is_one _ reply is)
+    over_proof (λ ts. Closes (One Check) c.args._words.now c.args._book.now.entries ts (once (Ok reply))) texts (λ (f : Formula) (steps : List ProofStep). reply ≡ reply_of_checked (check_proof f.clauses steps)) (λ text steps is. is_one _ reply (record { says = is; decided = λ enough. absurd enough }))
     c.args.files.now.cnf c.args.files.now.proof read c.in_ok-check_proof.ensures

@@ -19,4 +19,4 @@ returns-in_err-reply-clause-closes c texts read = memory_free _ _ c.from_residua
 pub returns-clause-closes : goal.returns-clause-closes
 returns-clause-closes c texts read never =
     let reply = c.in_ok-reply.field-0 in
-    over_none (λ ts. Closes (One (GenerateLog c.args.self.now.units c.args.self.now.start)) c.args._words.now c.args._book.now.entries ts (once (Ok reply))) texts read (is_one _ reply (c.in_ok-reply.ensures ∙ ap reply_of_log c.in_ok-plant.ensures.log))
+    over_none (λ ts. Closes (One (GenerateLog c.args.self.now.units c.args.self.now.start)) c.args._words.now c.args._book.now.entries ts (once (Ok reply))) texts read (is_one _ reply (record { says = c.in_ok-reply.ensures ∙ ap reply_of_log c.in_ok-plant.ensures.log; decided = λ enough. absurd enough }))

@@ -22,4 +22,4 @@ returns-clause-closes c texts read never =
     let reply = c.in_ok-reply.field-0 in
     let net = c.in_ok-plant.ensures.net in
     over_none (λ ts. Closes (One (GenerateModel c.args.self.now.units c.args.self.now.start)) c.args._words.now c.args._book.now.entries ts (once (Ok reply))) texts read
-    (is_one _ reply (record { is = c.in_ok-reply.ensures.is ∙ ap reply_of_model net; again = subst ReadsBack net (c.in_ok-reply.ensures.again c.in_ok-plant.ensures.as_read) }))
+    (is_one _ reply (record { says = record { is = c.in_ok-reply.ensures.is ∙ ap reply_of_model net; again = subst ReadsBack net (c.in_ok-reply.ensures.again c.in_ok-plant.ensures.as_read) }; decided = λ enough. absurd enough }))

@@ -21,4 +21,4 @@ pub returns-clause-closes : goal.returns-clause-closes
 returns-clause-closes c texts read never =
     let reply = c.in_ok-reply_of_model.field-0 in
     over_model (λ ts. Closes (One Show) c.args._words.now c.args._book.now.entries ts (once (Ok reply))) texts (λ (net : Net). reply ≡ reply_of_model net)
-    (λ text well is. is_one _ reply (record { is = is; again = read_and_printed text (none_before _ (first_model_fault text) well) })) c.args.files.now read c.in_ok-reply_of_model.ensures.is
+    (λ text well is. is_one _ reply (record { says = record { is = is; again = read_and_printed text (none_before _ (first_model_fault text) well) }; decided = λ enough. absurd enough })) c.args.files.now read c.in_ok-reply_of_model.ensures.is

@@ -21,4 +21,4 @@ pub returns-clause-closes : goal.returns-clause-closes
 returns-clause-closes c texts read never =
     let reply = c.in_ok-trace_run.field-0 in
     over_run (λ ts. Closes (One Trace) c.args._words.now c.args._book.now.entries ts (once (Ok reply))) texts (λ (net : Net) (run : List RunStep). (traced : Traced) × IsTraced net run traced × (reply ≡ reply_of_traced traced))
-    (λ text steps h. is_one _ reply (record { traced = h.0; holds = h.1; is = h.2 })) c.args.files.now.net c.args.files.now.run read c.in_ok-trace_run.ensures
+    (λ text steps h. is_one _ reply (record { says = record { traced = h.0; holds = h.1; is = h.2 }; decided = λ enough. absurd enough })) c.args.files.now.net c.args.files.now.run read c.in_ok-trace_run.ensures
