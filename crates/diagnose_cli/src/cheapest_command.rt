@@ -9,6 +9,7 @@ ghost use Rattle.proof_ledger.specs.Book.{BookEntry};
 ghost use Rattle.report.specs.Replies.{CheapEventsKnown};
 
 use crate::answering::Answering;
+use crate::command::Limits;
 use crate::reading::CostedCase;
 use cost_least::{Cheap, cost_size};
 use des_base::{Memory, WordList};
@@ -25,14 +26,13 @@ use std::alloc::Global;
 /// Finds the least total cost of what explains a log within a number of parallel steps.
 #[derive(Clone, Copy)]
 pub struct CheapestCommand {
-    pub steps: u32,
-    pub budget: u64,
+    pub limits: Limits,
 }
 
 impl Answering for CheapestCommand {
     type Files = CostedCase;
 
-    ghost command = { λ s. CheapestCalled s.steps s.budget };
+    ghost command = { λ s. CheapestCalled s.limits.steps s.limits.budget };
 
     fn answer(
         &self,
@@ -42,11 +42,11 @@ impl Answering for CheapestCommand {
         book: &mut Ledger,
     ) -> Result<Reply, Stop> {
         let case = &files.case;
-        let size = cost_size(&case.net, &case.log, self.steps);
+        let size = cost_size(&case.net, &case.log, self.limits.steps);
         if size > MOST_SIZE {
             return Err(Stop::Large(size));
         }
-        Ok(reply_to_costs(alloc, case, &files.table, *self, book)?)
+        Ok(reply_to_costs(alloc, case, &files.table, self.limits, book)?)
     }
 
     ghost has_files = { λ s. refl };
@@ -57,7 +57,7 @@ fn reply_to_costs(
     alloc: Global,
     case: &Case,
     table: &CostTable,
-    limits: CheapestCommand,
+    limits: Limits,
     book: &mut Ledger,
 ) -> Result<Reply, Memory>
     requires long { length table.now ≡ length case.now.net.events }

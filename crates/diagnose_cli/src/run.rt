@@ -155,7 +155,9 @@ fn answer<F: Shelf>(
             answer_over(alloc, words, shelf, command, &twin, book)
         }
         Single::Cheapest { steps, budget } => {
-            let cheapest = CheapestCommand { steps, budget };
+            let cheapest = CheapestCommand {
+                limits: Limits { steps, budget },
+            };
             answer_over(alloc, words, shelf, command, &cheapest, book)
         }
     }

@@ -102,10 +102,7 @@ fn test(
     ensures left { LeavesTwins net.now fault limits.steps limits.after limits.budget book.new.entries }
 {
     let test = TwinTest { net, fault, limits };
-    match set_up(alloc, net, limits.steps, &test, book, &mut ()) {
-        Ok(answer) => answer,
-        Err(Memory) => Err(Memory),
-    }
+    set_up(alloc, net, limits.steps, &test, book, &mut ())?
 }
 
 // A test of a fault event.

@@ -26,8 +26,8 @@ use Rattle.diagnose_cli.proofs.cheapest_command.CheapestCommandAnswering.answer.
 
 pub returns-then-size-gt-MOST_SIZE-clause-closes : goal.returns-then-size-gt-MOST_SIZE-clause-closes
 returns-then-size-gt-MOST_SIZE-clause-closes c texts read _ =
-    let n = c.args.self.now.steps in
-    let budget = c.args.self.now.budget in
+    let n = c.args.self.now.limits.steps in
+    let budget = c.args.self.now.limits.budget in
     let book = c.args.book.now.entries in
     let k = c.cost_size-size.result in
     over_third (λ ts. Closes (One (Cheapest n budget)) c.args._words.now book ts (Err (Large k))) texts (λ (net : Net) (log : Log). (k ≡ cost_size net log n) × (MOST_SIZE < k))
@@ -39,8 +39,8 @@ returns-in_err-reply_to_costs-clause-closes c texts read = memory_free _ _ c.fro
 
 pub returns-clause-closes : goal.returns-clause-closes
 returns-clause-closes c texts read _ =
-    let n = c.args.self.now.steps in
-    let budget = c.args.self.now.budget in
+    let n = c.args.self.now.limits.steps in
+    let budget = c.args.self.now.limits.budget in
     let k = c.cost_size-size.result in
     let book = c.reply_to_costs.new.book.entries in
     let reply = c.in_ok-reply_to_costs.field-0 in
@@ -59,11 +59,11 @@ reply_to_costs-requires-clause-within c = record {
 
 pub returns-then-size-gt-MOST_SIZE-clause-left : goal.returns-then-size-gt-MOST_SIZE-clause-left
 returns-then-size-gt-MOST_SIZE-clause-left c texts read =
-    let command = One (Cheapest c.args.self.now.steps c.args.self.now.budget) in
+    let command = One (Cheapest c.args.self.now.limits.steps c.args.self.now.limits.budget) in
     subst (λ (book : List BookEntry). Leaves command c.args._words.now texts book) (sym c.requires.empty) (empty_left command c.args._words.now texts)
 
 pub returns-in_err-reply_to_costs-clause-left : goal.returns-in_err-reply_to_costs-clause-left
-returns-in_err-reply_to_costs-clause-left c = prices_left c.args.self.now.steps c.args.self.now.budget c.args._words.now c.reply_to_costs.new.book.entries c.args.files.now.case c.args.files.now.table c.reply_to_costs.ensures.left
+returns-in_err-reply_to_costs-clause-left c = prices_left c.args.self.now.limits.steps c.args.self.now.limits.budget c.args._words.now c.reply_to_costs.new.book.entries c.args.files.now.case c.args.files.now.table c.reply_to_costs.ensures.left
 
 pub returns-clause-left : goal.returns-clause-left
-returns-clause-left c = prices_left c.args.self.now.steps c.args.self.now.budget c.args._words.now c.reply_to_costs.new.book.entries c.args.files.now.case c.args.files.now.table c.reply_to_costs.ensures.left
+returns-clause-left c = prices_left c.args.self.now.limits.steps c.args.self.now.limits.budget c.args._words.now c.reply_to_costs.new.book.entries c.args.files.now.case c.args.files.now.table c.reply_to_costs.ensures.left
