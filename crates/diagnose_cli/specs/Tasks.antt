@@ -45,31 +45,37 @@ Reply = Kind × List ℕ
 
 -- ---- over as many texts as there are
 
+-- P, where there is no text
 abbrev pub OverNone : List (List ℕ) → Type 0 → Type 0
 OverNone [] P = P
 OverNone _ P = ⊥
 
+-- P of the one text that there is
 abbrev pub OverOne : List (List ℕ) → (List ℕ → Type 0) → Type 0
 OverOne (text ∷ []) P = P text
 OverOne _ P = ⊥
 
+-- P of the two texts that there are
 abbrev pub OverTwo : List (List ℕ) → (List ℕ → List ℕ → Type 0) → Type 0
 OverTwo (text ∷ second ∷ []) P = P text second
 OverTwo _ P = ⊥
 
+-- P of the three texts that there are
 abbrev pub OverThree : List (List ℕ) → (List ℕ → List ℕ → List ℕ → Type 0) → Type 0
 OverThree (text ∷ second ∷ third ∷ []) P = P text second third
 OverThree _ P = ⊥
 
--- the size of a question about the network of a model, about it and the log of a second text, and about these and a third text
+-- the size of a question about one text
 abbrev pub size_over_one : List (List ℕ) → (List ℕ → ℕ) → Option ℕ
 size_over_one (text ∷ []) size = Some (size text)
 size_over_one _ size = None
 
+-- the size of a question about two texts
 abbrev pub size_over_two : List (List ℕ) → (List ℕ → List ℕ → ℕ) → Option ℕ
 size_over_two (text ∷ second ∷ []) size = Some (size text second)
 size_over_two _ size = None
 
+-- the size of a question about three texts
 abbrev pub size_over_three : List (List ℕ) → (List ℕ → List ℕ → List ℕ → ℕ) → Option ℕ
 size_over_three (text ∷ second ∷ third ∷ []) size = Some (size text second third)
 size_over_three _ size = None
@@ -81,29 +87,37 @@ names_no_fault words _ = false
 
 -- ---- commands that ask nothing
 
+-- a command that asks nothing has files and says something over their bytes
 abbrev pub asks_nothing : List FileKind → (List (List ℕ) → Reply → Type 0) → Task Reply
 asks_nothing files says = record { files = files; lacks_fault = λ words texts. false; size = λ texts. None; says = λ words book texts reply. says texts reply; asks = false; leaves = λ words texts book. ⊤; enough = λ words texts. ⊥ }
 
+-- `trace`, over a model and a run
 abbrev pub trace_task : Task Reply
 trace_task = asks_nothing (model ∷ run ∷ []) (λ texts reply. OverTwo texts (λ text steps. SaysTraced text steps reply))
 
+-- `show`, over a model
 abbrev pub show_task : Task Reply
 show_task = asks_nothing (model ∷ []) (λ texts reply. OverOne texts (λ text. SaysModel (network_of text) reply))
 
+-- `replay`, over a model, a log and a run
 abbrev pub replay_task : ℕ → Task Reply
 replay_task steps = asks_nothing (model ∷ log ∷ run ∷ []) (λ texts reply. OverThree texts (λ text alarms events. SaysReplayed steps text alarms events reply))
 
+-- `check`, over a formula and a proof
 abbrev pub check_task : Task Reply
 check_task = asks_nothing (cnf ∷ lrat ∷ []) (λ texts reply. OverTwo texts (λ formula proof. SaysChecked formula proof reply))
 
+-- `generate model`
 abbrev pub generate_model_task : ℕ → Task Reply
 generate_model_task units = asks_nothing [] (λ texts reply. OverNone texts (SaysModel (plant_net units) reply))
 
+-- `generate log`
 abbrev pub generate_log_task : ℕ → ℕ → Task Reply
 generate_log_task units start = asks_nothing [] (λ texts reply. OverNone texts (reply ≡ reply_of_log (plant_log units start)))
 
 -- ---- questions
 
+-- the question that the words ask, over a model and a log
 abbrev pub ask_task : ℕ → Task Reply
 ask_task steps = record {
   files = model ∷ log ∷ [];
@@ -115,6 +129,7 @@ ask_task steps = record {
   enough = λ words texts. OverTwo texts (λ text alarms. IsRequestAnd (request_of words) (λ question word. HasEnough question word (network_of text) (log_of alarms) steps));
 }
 
+-- `bench`, which asks about a generated plant
 abbrev pub bench_task : (units start steps budget : ℕ) → Task Reply
 bench_task units start steps budget = record {
   files = [];
@@ -126,6 +141,7 @@ bench_task units start steps budget = record {
   enough = λ words texts. OverNone texts (IsEnough budget (plant_net units) (plant_log units start) steps);
 }
 
+-- `twin`, over a model
 abbrev pub twin_task : (steps after budget : ℕ) → Task Reply
 twin_task steps after budget = record {
   files = model ∷ [];
@@ -137,6 +153,7 @@ twin_task steps after budget = record {
   enough = λ words texts. ⊥;
 }
 
+-- `cheapest`, over a model, a log and costs
 abbrev pub cheapest_task : (steps budget : ℕ) → Task Reply
 cheapest_task steps budget = record {
   files = model ∷ log ∷ costs ∷ [];
@@ -150,6 +167,7 @@ cheapest_task steps budget = record {
 
 -- ---- several replies
 
+-- `session`, over a model and a script
 abbrev pub session_task : (steps budget : ℕ) → Task Transcript
 session_task steps budget = record {
   files = model ∷ script ∷ [];
@@ -161,6 +179,7 @@ session_task steps budget = record {
   enough = λ words texts. ⊥;
 }
 
+-- `verdicts`, over a model and a log
 abbrev pub verdicts_task : (steps budget : ℕ) → Task Transcript
 verdicts_task steps budget = record {
   files = model ∷ log ∷ [];
@@ -174,6 +193,7 @@ verdicts_task steps budget = record {
 
 -- ---- the list of all
 
+-- by the command
 abbrev pub single_task : Single → Task Reply
 single_task Trace = trace_task
 single_task Show = show_task
@@ -203,6 +223,7 @@ task_of_single c = record {
   enough = (single_task c).enough;
 }
 
+-- the task of each command
 abbrev pub task_of : Command → Task Transcript
 task_of (One c) = task_of_single c
 task_of (Session steps budget) = session_task steps budget
