@@ -57,7 +57,7 @@ class Terminal:
         return said.decode(errors="replace")[:-len(f"\n{MARK}\n")]
 
     def close(self):
-        self.shell.terminate()
+        self.shell.kill()
         self.shell.wait()
         os.close(self.master)
 

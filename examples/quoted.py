@@ -6,7 +6,8 @@ PROGRAM is the compiled program, which `rt run` and `rt ci` leave as crates/diag
 read. The commands of a page are those of its blocks that are fenced as sh or indented. One shell runs them from top to bottom, redirections and all, at the
 top of a copy of what the pages name; so no command finds a file that the page doesn't have written. What the commands of a block print must be the fenced
 blocks that follow it at once, one after the other, where a line `...` stands for whatever lines. So a timeline of a page is what tools/timeline.py prints.
-A reply that is printed by itself must have its exit status. Each other fenced block without a kind must stand in a file of FILES.
+A reply that is printed by itself must have its exit status. Each other fenced block without a kind must stand in a file of FILES, and no line of an answer may stand outside the
+blocks. Figures for Mermaid, which isn't called, must keep to the small language of FIGURE, and each box of theirs must have its words.
 Left out are blocks that prove or build; they begin with a command of KIT. A block that calls one of OTHERS is run where that is installed and its help has these words.
 
 Status 0: every answer is the one that is quoted, 1: some isn't, 2: it could not begin.
@@ -26,6 +27,16 @@ PAGES = ["README.md", "CONTRIBUTING.md", *(f"docs/{it}.md" for it in ["tutorial"
 FILES = ["examples/*/*.des", "examples/*/*.blocks", "examples/*/*.csv", "examples/*/*.costs", "examples/*/*.run", "crates/*/must-fail/*.edit", "crates/*/more-edits/*.edit"]
 KIT = re.compile(r"(?:rt|\(?cd crates|git|\.ci/run|python3 examples/quoted\.py)\b")
 OTHERS = {"cadical": "--lrat", "minisat": "", "parallel": ""}
+BOX = r'(\w+)(\["[^"]+"\]|\(\["[^"]+"\]\))?(?::::fault)?'
+LINK = r'(?:---|-->|-\.->|-- "[^"]+" -->|-\. "[^"]+" \.->)'
+BOXES = rf"{BOX}(?: & {BOX})*"
+FIGURE = {
+    "flowchart LR": re.compile(rf"classDef fault stroke-dasharray: 4 3|{BOXES}(?: {LINK} {BOXES})*"),
+    "stateDiagram-v2": re.compile(r"(?:\[\*\]|\w+) --> \w+(?: : [\w-]+)?"),
+    "timeline": re.compile(r"step \d+(?: : (?:! )?[\w-]+(?: [\w-]+)?(?: \(fault\))?)+"),
+}
+FIGURE["flowchart TD"] = FIGURE["flowchart LR"]
+TAKEN = {"end", "class", "style", "click", "graph", "subgraph", "default", "direction"}
 PATH = os.path.dirname(sys.executable) + ":" + os.defpath
 SECONDS = 600
 STATUSES = {"EXPLAINED": 0, "RAN": 0, "ACCEPTED": 0, "VERIFIED": 0, "des": 0, "p": 0, "c": 0, "units": None, "USAGE": 2, "LOAD": 3, "MODEL": 5, "LOG": 6, "RUN": 7,
@@ -145,9 +156,32 @@ def has_its_status(command, answer, status):
     return first in STATUSES and STATUSES[first] in (None, status)
 
 
+def slipped(page):
+    """The lines of a page outside its blocks that also stand in one of them, which an answer has that slipped out of its block."""
+    inside = {line for _, text, _ in blocks(page) for line in text.split("\n") if len(line) >= 20}
+    outside = re.sub(r"^```.*?^```$", "", page, flags=re.M | re.S).split("\n")
+    return [line for line in outside if line in inside]
+
+
+def figure_fault(text):
+    """The first line of a figure that isn't one of FIGURE, or a box without words, if any."""
+    head, *lines = text.rstrip("\n").split("\n")
+    if head not in FIGURE:
+        return head
+    statements = [it.strip() for line in lines for it in line.split(";")]
+    for it in statements:
+        if not FIGURE[head].fullmatch(it):
+            return it
+    if head.startswith("flowchart"):
+        boxes = [(name, words) for it in statements if not it.startswith("classDef") for name, words in re.findall(rf"(?:^|[>&-] ){BOX}", it)]
+        return next((name for name, _ in boxes if name in TAKEN or not any(words for other, words in boxes if other == name)), None)
+    return None
+
+
 def wrong_of(page, program, files):
     """How many commands a page has, and what is wrong with its answers and its other blocks."""
-    asked, others = questions(read(os.path.join(TOP, page)))
+    whole = read(os.path.join(TOP, page))
+    asked, others = questions(whole)
     asked = [(commands(block), "".join(answers)) for block, answers in asked if is_run(block)]
     wrong = []
     with tempfile.TemporaryDirectory(prefix="pages-") as room:
@@ -160,6 +194,9 @@ def wrong_of(page, program, files):
         for command, (text, status) in zip(listed, answers):
             if not has_its_status(command, text, status):
                 wrong.append(f"the status of {command.strip()} is {status}\n")
+    wrong += [f"outside the blocks stands\n{line}\n" for line in slipped(whole)]
+    for text in (text for kind, text, _ in blocks(whole) if kind == "mermaid" and figure_fault(text)):
+        wrong.append(f"this isn't in the language of figures: {figure_fault(text)}\n")
     for kind, text in others:
         if kind == "mermaid" and text.startswith("timeline"):
             wrong.append(f"no command prints the timeline\n{text}")
