@@ -14,6 +14,11 @@ def text(kind, x, y, words, anchor="middle"):
     return f'<text{kind} x="{x:.0f}" y="{y:.0f}" text-anchor="{anchor}">{escape(words)}</text>'
 
 
+def bold(words):
+    """How wide small bold words are, most of them capitals."""
+    return sum(12 if it in "MW" else 9 if it.isupper() else CHAR for it in words)
+
+
 def shortened(words, width):
     """Words as far as they fit into a width."""
     room = max(int(width / CHAR), 1)
