@@ -27,8 +27,8 @@ CSS = os.path.join(os.path.dirname(os.path.abspath(__file__)), "report.css")
 # How wide a run is drawn for a wide and a narrow screen, how high a picture may be on paper, and how much of what is long is shown.
 WIDE, NARROW, TALL, DRAWN, LONG, PRINTED, SHOWN, FOLDED = 760, 350, 520, 12, 600, 20, 300, 12
 MARKS = {"certain": "\u25cf", "possible": "\u25d0", "open": "?", "excluded": "\u25cb"}
-MEANS = {"certain": "every explanation with so few faults has it", "possible": "some of them have it and some don't", "open": "the budget or the time was spent before it was known",
-         "excluded": "none of them has it"}
+MEANS = {"certain": "every explanation with the fewest faults has it", "possible": "some explanations with the fewest faults have it and some don't", "open": "the budget or the time was spent before it was known",
+         "excluded": "no explanation with the fewest faults has it"}
 # Each colour of the light scheme with that of the dark one.
 DARK = {"fff": "16181c", "222": "e8e9eb", "f4f5f7": "1f2329", "555": "b4b9c0", "e6eef6": "263850", "f5d590": "5a4712", "333": "d5d7da", "b3261e": "ff8f85", "1f5fa8": "8fbcf2", "777": "a9adb3",
         "fafbfc": "1b1e23", "d5d9de": "3d434b", "dfe9f3": "26384e", "6b7f94": "8da2b8", "999": "8b8f95", "666": "a2a6ac", "aaa": "7b8087", "444": "c6c9cd", "888": "9a9ea4"}
@@ -170,7 +170,7 @@ class Page:
                                "When things happened within the run isn't certain, even where the fault is.</p>\n")]
         if others:
             lines.append("<h3>Other runs with the fewest faults</h3>")
-            few = f"{sentence(word(len(others)))[:-1]} {'more runs' if len(others) > 1 else 'more run'} with as few faults{' as can be' * self.is_least}"
+            few = f"{sentence(word(len(others)))[:-1]} {'more runs' if len(others) > 1 else 'more run'} with as few faults{' as possible' * self.is_least}"
             lines.append(f"<p>{few} {'were' if len(others) > 1 else 'was'} found, to show what is possible. There may be others.</p>")
         return "\n".join(lines + [self.other(place, run, events) for place, (run, events) in enumerate(others, 1)])
 
@@ -313,7 +313,7 @@ class Page:
         again = command([found.program, "replay"] + found.asked + ["answer.run", found.n])
         said = "."
         if told.kind == "ACCEPTED":
-            said = (f", so the plant can perform the run, and it raises just these alarms, in an order that the log allows, with {plural(told.numbers[0], 'fault')} "
+            said = (f", so the plant can perform the run, and it raises exactly these alarms, in an order that the log allows, with {plural(told.numbers[0], 'fault')} "
                     f"within {plural(int(found.n), 'step')}.")
         parts = ["<h3>That the run explains the log</h3>", f"<p>The run can be checked apart from the search that found it: <code>replay</code> {replied(told)}{said}</p>"]
         return "\n".join(parts + self.check_others() + [pre(lines + "\n" + again)])

@@ -170,7 +170,7 @@ class Words:
             few = len(by["excluded"])
             said.append("all fault events are excluded" if not said else "the other fault event is excluded" if few == 1 else f"the other {few:,} fault events are excluded")
         meant = " (False alarms count as faults here.)" if self.found.false_in(verdicts.run) else ""
-        return (f"If there {'was just one fault' if count == 1 else f'were just {word(count)} faults'}: {'; '.join(said)}.{meant} "
+        return (f"If there {'was only one fault' if count == 1 else f'were only {word(count)} faults'}: {'; '.join(said)}.{meant} "
                 "With more faults, or in more steps, others may have happened.")
 
     def named(self, run):
