@@ -85,7 +85,7 @@ def main():
         if answer != wanted:
             wrong += 1
             print(f"of the text\n{text}it should be\n{wanted}\nand it is\n{answer}")
-    print(f"{len(tried)} texts of blocks, of which {wrong} come to something else than they should")
+    print(f"{len(tried)} texts of blocks, of which {wrong} give something else than they should")
     return 1 if wrong else 0
 
 

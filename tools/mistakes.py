@@ -242,7 +242,9 @@ def model_limit(place):
     parts = len(parts_of(place.words)) if first == "event" else 0
     if parts > 16:
         return f"an event has at most 16 parts, and this one has {parts}"
-    return "with this line the model would have more than " + {"component": "1,000 components", "state": "256 states of one component", "trans": "50,000 transitions", "event": "4,000 events"}[first]
+    if first == "state":
+        return "with this line the component would have more than 256 states"
+    return "with this line the model would have more than " + {"component": "1,000 components", "trans": "50,000 transitions", "event": "4,000 events"}[first]
 
 
 # Logs and scripts.
