@@ -1,4 +1,4 @@
-// The least total cost by two stored closures: one looks up what was read from a text, the other has the costs itself.
+// The least total cost by a stored closure that has the costs itself. What one finds that looks them up in a text is a case of files.
 ghost use Rattle.std.specs.Prelude.{◌≡◌, ◌≤◌, [], true};
 ghost use Rattle.cost_least.specs.Costs.{cost_size};
 ghost use Rattle.des_base.specs.declared.TheConstants.{MOST_STEPS};
@@ -13,7 +13,7 @@ use crate::models::{ModelCase, VALVE, alarm_log, passes_on};
 use cost_least::{Cheap, cheapest, cost_size};
 use des_base::{EventId, Memory};
 use des_net::Network;
-use event_costs::{Costs, MOST_COST, read_costs};
+use event_costs::{Costs, MOST_COST};
 use indep::{Indep, plain_touch};
 use least_faults::{MOST_SIZE, Parts, build};
 use log_order::AlarmLog;
@@ -22,11 +22,10 @@ use sat_order::Order;
 use sat_solve::Solver;
 use std::alloc::Global;
 
-// A question, and the least total, or none if it is above 1,000. By the text the first event has the first price, and each other
-// fault event has the second.
+// A question, and the least total, or none if it is above 1,000. The first event has the first price, and each other fault event has the
+// second.
 pub struct CostRow {
     log: &'static str,
-    costs: &'static str,
     prices: (u32, u32),
     steps: u32,
     least: Option<u32>,
@@ -38,7 +37,6 @@ const TWO_WAYS: &str =
 
 const TWO_FAULTS_ARE_CHEAPER: CostRow = CostRow {
     log: "alarm,x,A\n",
-    costs: "costs 1\ncost ef 10\ncost eg 2\ncost eh 2\n",
     prices: (10, 2),
     steps: 3,
     least: Some(4),
@@ -47,7 +45,6 @@ const TWO_FAULTS_ARE_CHEAPER: CostRow = CostRow {
 // There are not steps enough for two faults.
 const ONE_FAULT_IS_LEFT: CostRow = CostRow {
     log: "alarm,x,A\n",
-    costs: "costs 1\ncost ef 10\ncost eg 2\ncost eh 2\n",
     prices: (10, 2),
     steps: 2,
     least: Some(10),
@@ -56,7 +53,6 @@ const ONE_FAULT_IS_LEFT: CostRow = CostRow {
 // The valve trips twice.
 const TWO_JAMS_ARE_DEAR: CostRow = CostRow {
     log: "alarm,a1,T\nalarm,a2,F\nalarm,a3,T\nbefore,a1,a2\nbefore,a2,a3\n",
-    costs: "costs 1\ncost jam 600\n",
     prices: (600, 1),
     steps: 5,
     least: None,
@@ -164,23 +160,6 @@ fn finds<C: Fn(u32) -> u32>(
     builds_plainly(alloc, net, log, steps, costs, &mut Ledger::new(alloc), want)
 }
 
-// By what the text says.
-fn finds_by_table(alloc: Global, net: &Network, log: &AlarmLog, row: &CostRow) -> bool {
-    if row.costs.len() > 1000 {
-        return false;
-    }
-    match read_costs(alloc, row.costs.as_bytes(), net) {
-        Ok(table) => {
-            let costs = Costs::new(net, |event: u32| table.cost(event));
-            let found = finds(alloc, net, log, row.steps, &costs, row.least);
-            drop(costs);
-            drop(table);
-            found
-        }
-        Err(_) => false,
-    }
-}
-
 // By a closure that has the costs itself: two, of which the first is that of the first event.
 fn finds_by_numbers(
     alloc: Global,
@@ -198,24 +177,23 @@ fn finds_by_numbers(
     finds(alloc, net, log, steps, &costs, want)
 }
 
-fn finds_by_both(alloc: Global, net: &Network, log: &AlarmLog, row: &CostRow) -> bool {
-    finds_by_table(alloc, net, log, row)
-        && is_price(row.prices.0)
-        && is_price(row.prices.1)
-        && finds_by_numbers(alloc, net, log, row.steps, row.prices, row.least)
-}
-
 fn is_price(price: u32) -> bool
     ensures { result ≡ true → IsPrice price }
 {
     price >= 1 && price <= MOST_COST
 }
 
-// Whether it is found by both closures.
+fn finds_row(alloc: Global, net: &Network, log: &AlarmLog, row: &CostRow) -> bool {
+    is_price(row.prices.0)
+        && is_price(row.prices.1)
+        && finds_by_numbers(alloc, net, log, row.steps, row.prices, row.least)
+}
+
+// Whether it is found.
 pub fn finds_least(alloc: Global, net: &Network, row: &CostRow) -> bool {
     match alarm_log(alloc, row.log) {
         Some(log) => {
-            let found = finds_by_both(alloc, net, &log, row);
+            let found = finds_row(alloc, net, &log, row);
             drop(log);
             found
         }
@@ -227,11 +205,26 @@ pub fn finds_least(alloc: Global, net: &Network, row: &CostRow) -> bool {
 fn finds_least_totals(rt: HostRuntime) {
     assert!(rt;
         passes_on(
+            &rt,
             rt.alloc(),
             TWO_WAYS,
             &ModelCase::Least(&TWO_FAULTS_ARE_CHEAPER)
         )
     );
-    assert!(rt; passes_on(rt.alloc(), TWO_WAYS, &ModelCase::Least(&ONE_FAULT_IS_LEFT)));
-    assert!(rt; passes_on(rt.alloc(), VALVE, &ModelCase::Least(&TWO_JAMS_ARE_DEAR)));
+    assert!(rt;
+        passes_on(
+            &rt,
+            rt.alloc(),
+            TWO_WAYS,
+            &ModelCase::Least(&ONE_FAULT_IS_LEFT)
+        )
+    );
+    assert!(rt;
+        passes_on(
+            &rt,
+            rt.alloc(),
+            VALVE,
+            &ModelCase::Least(&TWO_JAMS_ARE_DEAR)
+        )
+    );
 }

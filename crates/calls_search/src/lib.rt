@@ -1,11 +1,17 @@
-//! What only calls can show of the search: it is asked questions on formulas whose answers other solvers found, and has to show its answers.
+//! Tests of what only calls show of the search, and nothing else: it is asked questions on formulas whose answers other solvers found, a
+//! book derives what it is asked to, and a clause that subsumes another is the reason in its place.
 //!
-//! It has nothing but tests, each through the public interface of a crate. What the program itself can show stands in `cases/`.
+//! That an answer is right, and is shown by the book and the assignment, is said by the contract of the search. What the program itself can
+//! show stands in `cases/`.
 #![tactic(auto)]
 
 #[cfg(test)]
-mod evidence;
+mod book;
 #[cfg(test)]
 mod formulas;
 #[cfg(test)]
+mod literals;
+#[cfg(test)]
 mod solver;
+#[cfg(test)]
+mod trail;

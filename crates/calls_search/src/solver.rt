@@ -1,16 +1,15 @@
-// A search on a book is asked questions whose answers are known from elsewhere, and has to show its answers.
-ghost use Rattle.std.specs.Prelude.{◌≡◌, ◌≤◌, [], length};
-ghost use Rattle.prop_core.specs.Clauses.{HasValues, AreConsistent};
+// A search on a book is asked questions whose answers are known from elsewhere.
+ghost use Rattle.std.specs.Prelude.{◌≡◌, ◌≤◌, [], length, not, true};
+ghost use Rattle.std.specs.List.{list_all};
+ghost use Rattle.prop_core.specs.Clauses.{HasValues, AreConsistent, is_false, is_true};
 ghost use Rattle.sat_order.specs.Rank.{IsRank};
 ghost use Rattle.calls_search.specs.Ready.{IsReady};
 
-use crate::evidence::{
-    are_below, are_compatible, derives_again, is_model, is_refutation, learnt_since,
-};
-use crate::formulas::{Formula, drawn, put};
+use crate::formulas::drawn;
+use crate::literals::{NO_0, NO_1, YES_0, YES_1, are_below, push_all};
 use des_base::Memory;
 use proof_ledger::Ledger;
-use prop_core::{Assignment, ClauseId, Clauses, Lit};
+use prop_core::{ClauseId, Clauses, Lit};
 use sat_order::Order;
 use sat_solve::{Answer, Solver};
 use std::alloc::Global;
@@ -76,36 +75,36 @@ fn add_all<R: Fn(u32) -> u64>(
     true
 }
 
-// Whether the answer is the one that is wanted, and is shown.
-fn is_shown(
-    alloc: Global,
-    book: &Ledger,
-    values: &Assignment,
-    vars: u32,
-    assumed: &[Lit],
-    wanted: Option<bool>,
-    answer: Answer,
-) -> bool
-    requires { vars ≤ length values.now }
+// Whether no two of the literals are negations of each other.
+fn are_compatible(literals: &[Lit]) -> bool
+    ensures { result ≡ true → AreConsistent literals.now }
 {
+    none_negated(literals, literals)
+}
+
+fn none_negated(some: &[Lit], literals: &[Lit]) -> bool
+    ensures { result ≡ list_all (λ l. not (is_false literals.now l)) some.now }
+{
+    some.iter().all(|lit| !among(literals, lit.negated()))
+}
+
+fn among(literals: &[Lit], lit: Lit) -> bool
+    ensures { result ≡ is_true literals.now lit }
+{
+    literals.iter().any(|other| lit == *other)
+}
+
+// What was answered: whether there is an assignment, or nothing where the budget was spent.
+fn told(answer: Answer) -> Option<bool> {
     match answer {
-        Answer::Sat => wanted == Some(true) && is_model(book.clauses(), values, vars, assumed),
-        Answer::Unsat(id) => {
-            wanted == Some(false) && is_refutation(book, id, assumed) && derives_again(alloc, book)
-        }
-        Answer::Spent => wanted.is_none(),
+        Answer::Sat => Some(true),
+        Answer::Unsat(_) => Some(false),
+        Answer::Spent => None,
     }
 }
 
-// Whether a search that left `left` of its budget paid for what it learnt, and left nothing if the budget is to be spent.
-fn is_paid(book: &Ledger, before: u64, question: &SolverQuestion, left: u64) -> bool {
-    let paid = left.saturating_add(learnt_since(book, before)) == question.0;
-    paid && (left == 0 || question.3.is_some())
-}
-
-// Whether the solver answers the question rightly under these assumptions, shows the answer, and paid for it.
+// Whether the solver answers the question rightly under these assumptions.
 fn answers_under<R: Fn(u32) -> u64>(
-    alloc: Global,
     solver: &mut Solver<R>,
     book: &mut Ledger,
     vars: u32,
@@ -117,28 +116,15 @@ fn answers_under<R: Fn(u32) -> u64>(
     requires compatible { AreConsistent assumed.now }
     ensures { IsReady R.pre R.post solver.new book.new.entries vars }
 {
-    let before = book.entries();
-    let mut left = question.0;
-    match solver.solve(book, assumed, &mut left) {
-        Ok(answer) => {
-            is_paid(book, before, question, left)
-                && is_shown(
-                    alloc,
-                    book,
-                    solver.assignment(),
-                    vars,
-                    assumed,
-                    question.3,
-                    answer,
-                )
-        }
+    let mut budget = question.0;
+    match solver.solve(book, assumed, &mut budget) {
+        Ok(answer) => told(answer) == question.3,
         Err(_) => false,
     }
 }
 
 // Whether it does under the assumptions that the question has.
 fn ask<R: Fn(u32) -> u64>(
-    alloc: Global,
     solver: &mut Solver<R>,
     book: &mut Ledger,
     vars: u32,
@@ -151,12 +137,11 @@ fn ask<R: Fn(u32) -> u64>(
     let assumed = &literals[..question.1.min(8)];
     are_below(assumed, vars)
         && are_compatible(assumed)
-        && answers_under(alloc, solver, book, vars, assumed, question)
+        && answers_under(solver, book, vars, assumed, question)
 }
 
 // Whether all questions are answered rightly.
 fn ask_all<R: Fn(u32) -> u64>(
-    alloc: Global,
     solver: &mut Solver<R>,
     book: &mut Ledger,
     vars: u32,
@@ -166,7 +151,7 @@ fn ask_all<R: Fn(u32) -> u64>(
     ensures { IsReady R.pre R.post solver.new book.new.entries vars }
 {
     for question in questions {
-        if !ask(alloc, solver, book, vars, question) {
+        if !ask(solver, book, vars, question) {
             return false;
         }
     }
@@ -175,7 +160,6 @@ fn ask_all<R: Fn(u32) -> u64>(
 
 // Whether all questions are answered rightly, where the last quarter of the clauses comes after the early ones.
 fn answers_in_two<R: Fn(u32) -> u64>(
-    alloc: Global,
     solver: &mut Solver<R>,
     book: &mut Ledger,
     vars: u32,
@@ -188,14 +172,13 @@ fn answers_in_two<R: Fn(u32) -> u64>(
     let end = clauses.len();
     let first = end - end / 4;
     add_all(solver, book, vars, clauses, 0, first)
-        && ask_all(alloc, solver, book, vars, early)
+        && ask_all(solver, book, vars, early)
         && add_all(solver, book, vars, clauses, first, end)
-        && ask_all(alloc, solver, book, vars, late)
+        && ask_all(solver, book, vars, late)
 }
 
 // The same of a new solver and an empty book, with at most 1,000 variables.
 fn answers_anew<R: Fn(u32) -> u64>(
-    alloc: Global,
     solver: &mut Solver<R>,
     book: &mut Ledger,
     vars: u32,
@@ -210,25 +193,7 @@ fn answers_anew<R: Fn(u32) -> u64>(
 {
     vars <= 1000
         && solver.reserve(vars, 0).is_ok()
-        && answers_in_two(alloc, solver, book, vars, clauses, early, late)
-}
-
-// Lets the variables be tried as true first, the last one first.
-fn tries_all<R: Fn(u32) -> u64>(alloc: Global, solver: &mut Solver<R>, vars: u32) -> bool
-    ensures { solver.new ≡ solver.old }
-{
-    let mut lits = Vec::new(alloc);
-    for before in 0..vars {
-        let lit = Lit {
-            var: vars - 1 - before,
-            positive: true,
-        };
-        if lits.push(lit).is_err() {
-            return false;
-        }
-    }
-    solver.try_first(lits);
-    true
+        && answers_in_two(solver, book, vars, clauses, early, late)
 }
 
 // The same with this order.
@@ -246,8 +211,7 @@ fn answers<R: Fn(u32) -> u64>(
     requires empty { book.old.entries ≡ [] }
 {
     let mut solver = Solver::new(alloc, order);
-    let answered = tries_all(alloc, &mut solver, vars)
-        && answers_anew(alloc, &mut solver, book, vars, clauses, early, late);
+    let answered = answers_anew(&mut solver, book, vars, clauses, early, late);
     drop(solver);
     answered
 }
@@ -362,105 +326,38 @@ fn formulas_of_three_literals_a_clause(rt: HostRuntime) {
     assert!(rt; all_drawn(rt.alloc(), &DRAWN));
 }
 
-// A formula, how many variables it has, by which ranks it is asked, and the questions.
-type FormulaRow = (Formula, u32, &'static [bool], &'static [SolverQuestion]);
+// Clauses of two variables, and the questions.
+type WorkedRow = (&'static [&'static [Lit]], &'static [SolverQuestion]);
 
-static WORKED: [FormulaRow; 3] = [
+static WORKED: [WorkedRow; 3] = [
+    (&[], &[(0, 0, 0, Some(true))]),
     (
-        Formula::Pairs(&[]),
-        2,
-        &[true, false],
-        &[(0, 0, 0, Some(true))],
+        &[
+            &[YES_0, YES_1],
+            &[NO_0, YES_1],
+            &[YES_0, NO_1],
+            &[NO_0, NO_1],
+        ],
+        &[(0, 0, 0, None), (1000, 0, 0, Some(false))],
     ),
-    (
-        Formula::Pairs(&[(true, true), (false, true), (true, false), (false, false)]),
-        2,
-        &[true, false],
-        &[(1000, 0, 0, Some(false))],
-    ),
-    (
-        Formula::Pairs(&[(false, true), (false, false)]),
-        2,
-        &[true, false],
-        &[(0, 1, 1, Some(false))],
-    ),
+    (&[&[NO_0, YES_1], &[NO_0, NO_1]], &[(0, 1, 1, Some(false))]),
 ];
 
-// All pigeons but one have holes, all together don't, and then all but one do again.
-const ONE_HOLE: [SolverQuestion; 3] = [
-    (AMPLE, 1, 31, Some(true)),
-    (AMPLE, 2, 31, Some(false)),
-    (AMPLE, 1, 31, Some(true)),
-];
-
-const TWO_HOLES: [SolverQuestion; 3] = [
-    (AMPLE, 2, 31, Some(true)),
-    (AMPLE, 3, 31, Some(false)),
-    (AMPLE, 2, 31, Some(true)),
-];
-
-const THREE_HOLES: [SolverQuestion; 3] = [
-    (AMPLE, 3, 31, Some(true)),
-    (AMPLE, 4, 31, Some(false)),
-    (AMPLE, 3, 31, Some(true)),
-];
-
-const FOUR_HOLES: [SolverQuestion; 3] = [
-    (AMPLE, 4, 31, Some(true)),
-    (AMPLE, 5, 31, Some(false)),
-    (AMPLE, 4, 31, Some(true)),
-];
-
-// A search that was cut off goes on when it is asked again.
-const SPENT: [SolverQuestion; 3] = [
-    (0, 4, 15, None),
-    (1, 4, 15, None),
-    (AMPLE, 4, 15, Some(false)),
-];
-
-// One pigeon more than there are holes has no place; without it each has.
-static PIGEONS: [FormulaRow; 5] = [
-    (Formula::Pigeons(2, 1), 4, &[true], &ONE_HOLE),
-    (Formula::Pigeons(3, 2), 9, &[true], &TWO_HOLES),
-    (Formula::Pigeons(4, 3), 16, &[true], &THREE_HOLES),
-    (Formula::Pigeons(5, 4), 25, &[true], &FOUR_HOLES),
-    (Formula::Pigeons(4, 3), 16, &[true], &SPENT),
-];
-
-// What two sums are.
-const PARITIES: [SolverQuestion; 4] = [
-    (AMPLE, 2, 0, Some(true)),
-    (AMPLE, 2, 1, Some(false)),
-    (AMPLE, 2, 2, Some(false)),
-    (AMPLE, 2, 3, Some(true)),
-];
-
-// Two sums of the same inputs are the same.
-static SUMS: [FormulaRow; 6] = [
-    (Formula::Sums(1), 7, &[false], &PARITIES),
-    (Formula::Sums(2), 10, &[false], &PARITIES),
-    (Formula::Sums(3), 13, &[false], &PARITIES),
-    (Formula::Sums(4), 16, &[false], &PARITIES),
-    (Formula::Sums(5), 19, &[false], &PARITIES),
-    (Formula::Sums(6), 22, &[false], &PARITIES),
-];
-
-fn answers_row(alloc: Global, row: &FormulaRow, clauses: &mut Clauses) -> bool {
-    put(alloc, &row.0, clauses) && by_each(alloc, row.2, row.1, clauses, &[], row.3)
+fn answers_worked(alloc: Global, row: &WorkedRow, clauses: &mut Clauses) -> bool {
+    push_all(clauses, row.0) && by_each(alloc, &[true, false], 2, clauses, &[], row.1)
 }
 
-fn answers_all(alloc: Global, rows: &[FormulaRow]) -> bool {
+fn all_worked(alloc: Global, rows: &[WorkedRow]) -> bool {
     for row in rows {
-        if !answers_row(alloc, row, &mut Clauses::new(alloc)) {
+        if !answers_worked(alloc, row, &mut Clauses::new(alloc)) {
             return false;
         }
     }
     true
 }
 
+// A search that was cut off goes on when it is asked again.
 #[test]
-fn pairs_pigeons_and_sums(rt: HostRuntime) {
-    assert!(rt; answers_all(rt.alloc(), &WORKED));
-    assert!(rt; answers_all(rt.alloc(), &PIGEONS));
-    assert!(rt; answers_all(rt.alloc(), &SUMS));
+fn clauses_of_two_variables(rt: HostRuntime) {
+    assert!(rt; all_worked(rt.alloc(), &WORKED));
 }
