@@ -8,30 +8,31 @@ The plants are those of diagnose.py: a bus and Z units as the program's `generat
 components that reboot. The seconds are those of the processor for the whole command, the least of three runs. The last columns say how many fault events are
 certain, excluded, possible and open.
 
-On 29 November 2026, by the proved program, on four shared processors of an Intel Xeon under heavy load:
+On 1 December 2026, by a build of the same code without its proof, on four shared processors of an Intel Xeon under heavy load, the least of two runs:
 
 | Plant | Steps | Fault events | `diagnose` | `verdicts` | Ratio | MiB | certain | excluded | possible | open | Status |
 |---|---|---|---|---|---|---|---|---|---|---|---|
-| 20 units | 6 | 20 | 0.00 | 0.01 | 1.4 | 14 | 5 | 15 | 0 | 0 | 0 |
-| 20 units | 8 | 20 | 0.00 | 0.01 | 1.4 | 14 | 5 | 15 | 0 | 0 | 0 |
-| 40 units | 10 | 40 | 0.01 | 0.02 | 2.2 | 14 | 9 | 31 | 0 | 0 | 0 |
-| 40 units | 12 | 40 | 0.01 | 0.03 | 2.2 | 14 | 9 | 31 | 0 | 0 | 0 |
-| 64 units | 16 | 64 | 0.04 | 0.15 | 3.4 | 14 | 15 | 49 | 0 | 0 | 0 |
-| 64 units | 18 | 64 | 0.06 | 0.17 | 2.9 | 14 | 15 | 49 | 0 | 0 | 0 |
-| 100 units | 26 | 100 | 0.25 | 1.36 | 5.3 | 32 | 25 | 75 | 0 | 0 | 0 |
-| 100 units | 28 | 100 | 0.32 | 1.34 | 4.2 | 35 | 25 | 75 | 0 | 0 | 0 |
-| 200 units | 50 | 200 | 3.16 | 17.13 | 5.4 | 204 | 49 | 151 | 0 | 0 | 0 |
-| 200 units | 52 | 200 | 2.29 | 12.88 | 5.6 | 211 | 49 | 151 | 0 | 0 | 0 |
-| mesh of 20 nodes | 10 | 90 | 0.08 | 0.41 | 5.0 | 16 | 0 | 68 | 22 | 0 | 0 |
-| mesh of 30 nodes | 12 | 180 | 1.48 | 5.71 | 3.9 | 99 | 1 | 158 | 21 | 0 | 0 |
-| grid of 20, 1 fault, whole order | 5 | 20 | 0.01 | 0.01 | 1.0 | 15 | 1 | 19 | 0 | 0 | 0 |
-| grid of 20, 1 fault, order of each component | 5 | 20 | 0.01 | 0.01 | 1.4 | 15 | 1 | 19 | 0 | 0 | 0 |
-| grid of 20, 3 faults, whole order | 10 | 20 | 0.02 | 0.04 | 1.9 | 15 | 3 | 17 | 0 | 0 | 0 |
-| grid of 20, 3 faults, order of each component | 10 | 20 | 0.03 | 0.09 | 2.7 | 15 | 3 | 17 | 0 | 0 | 0 |
-| grid of 20, 5 faults, whole order | 16 | 20 | 0.18 | 0.32 | 1.8 | 15 | 5 | 15 | 0 | 0 | 0 |
-| grid of 20, 5 faults, order of each component | 16 | 20 | 1.01 | 3.53 | 3.5 | 54 | 2 | 12 | 6 | 0 | 0 |
+| 20 units | 6 | 20 | 0.01 | 0.01 | 1.3 | 15 | 5 | 15 | 0 | 0 | 0 |
+| 20 units | 8 | 20 | 0.01 | 0.01 | 1.5 | 15 | 5 | 15 | 0 | 0 | 0 |
+| 40 units | 10 | 40 | 0.01 | 0.03 | 2.0 | 15 | 9 | 31 | 0 | 0 | 0 |
+| 40 units | 12 | 40 | 0.02 | 0.03 | 1.9 | 15 | 9 | 31 | 0 | 0 | 0 |
+| 64 units | 16 | 64 | 0.05 | 0.12 | 2.2 | 15 | 15 | 49 | 0 | 0 | 0 |
+| 64 units | 18 | 64 | 0.04 | 0.12 | 2.7 | 15 | 15 | 49 | 0 | 0 | 0 |
+| 100 units | 26 | 100 | 0.24 | 0.68 | 2.8 | 34 | 25 | 75 | 0 | 0 | 0 |
+| 100 units | 28 | 100 | 0.28 | 0.69 | 2.4 | 35 | 25 | 75 | 0 | 0 | 0 |
+| 200 units | 50 | 200 | 2.32 | 8.22 | 3.5 | 213 | 49 | 151 | 0 | 0 | 0 |
+| 200 units | 52 | 200 | 2.02 | 7.64 | 3.8 | 218 | 49 | 151 | 0 | 0 | 0 |
+| mesh of 20 nodes | 10 | 90 | 0.06 | 0.23 | 3.8 | 15 | 0 | 68 | 22 | 0 | 0 |
+| mesh of 30 nodes | 12 | 180 | 0.82 | 3.44 | 4.2 | 61 | 1 | 158 | 21 | 0 | 0 |
+| grid of 20, 1 fault, whole order | 5 | 20 | 0.01 | 0.01 | 1.1 | 16 | 1 | 19 | 0 | 0 | 0 |
+| grid of 20, 1 fault, order of each component | 5 | 20 | 0.01 | 0.01 | 1.1 | 16 | 1 | 19 | 0 | 0 | 0 |
+| grid of 20, 3 faults, whole order | 10 | 20 | 0.02 | 0.03 | 1.3 | 16 | 3 | 17 | 0 | 0 | 0 |
+| grid of 20, 3 faults, order of each component | 10 | 20 | 0.04 | 0.08 | 1.9 | 16 | 3 | 17 | 0 | 0 | 0 |
+| grid of 20, 5 faults, whole order | 16 | 20 | 0.15 | 0.37 | 2.4 | 16 | 5 | 15 | 0 | 0 | 0 |
+| grid of 20, 5 faults, order of each component | 16 | 20 | 1.74 | 3.46 | 2.0 | 54 | 2 | 12 | 6 | 0 | 0 |
 
-So `verdicts` took at most 5.6 times as long as `diagnose` of the same log.
+So `verdicts` took at most 4.2 times as long as `diagnose` of the same log. Before counts up to each event were tried first, in one run each on the same day, it took 15.3 and 13.4 seconds on 200 units
+(6.5 and 6.6 times as long as `diagnose`), 1.3 on 100 (5.4 and 4.4 times), 0.45 and 4.2 on meshes of 20 and 30 nodes (6.3 and 4.9 times), and 0.32 and 5.6 on the grid with 5 faults.
 """
 import re
 import sys

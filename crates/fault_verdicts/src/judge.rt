@@ -8,6 +8,7 @@ ghost use Rattle.fault_verdicts.specs.Ready.{AreReadyForVerdicts};
 ghost use Rattle.least_faults.specs.Growing.{HasGrownWithin};
 ghost use Rattle.least_faults.specs.Parts.{BelongTo};
 
+use crate::counted::advise;
 use crate::kept::{About, Carried};
 use crate::others::judge_kept;
 use answers::Verdict;
@@ -40,7 +41,7 @@ impl<'a, R> Model for Judge<'a, R> {
 }
 
 impl<'a, R: Fn(u32) -> u64> Judge<'a, R> {
-    /// Begins beside a best run, over the parts of the question and their book.
+    /// Begins beside a best run, over the parts of the question and their book. It advises the solver on the questions to come.
     pub fn new(
         alloc: Global,
         net: &'a Network,
@@ -56,6 +57,9 @@ impl<'a, R: Fn(u32) -> u64> Judge<'a, R> {
         requires known { IsBestRun net.now log.now parts.step.steps best.now.faults best.now.run }
         ensures { result ≡ record { matter = record { net = net.now; log = log.now; steps = parts.step.steps; best = best.now; budget = budget }; parts = parts; book = book.entries } }
     {
+        let mut parts = parts;
+        // Out of memory it goes on without advice.
+        let _ = advise(alloc, &mut parts, best.faults);
         let about = About {
             net,
             log,

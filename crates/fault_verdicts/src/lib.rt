@@ -8,6 +8,7 @@
 #![tactic(auto)]
 
 mod assuming;
+mod counted;
 mod judge;
 mod judging;
 mod kept;

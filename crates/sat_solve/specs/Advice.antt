@@ -2,7 +2,7 @@
 --
 -- A variable is decided as it last stood (Pipatsrisawat and Darwiche, "A lightweight component caching scheme for satisfiability
 -- solvers", 2007), and the first time as false.
-use Rattle.std.specs.Prelude.{◌≡◌, ℕ, ◌+◌, ◌-◌, Bool, ◌&&◌, false, List, [], drop, length, find, nat_lt, nat_le, slice_index_or, slice_set, Option, None, if◌then◌else◌}
+use Rattle.std.specs.Prelude.{◌≡◌, ℕ, ◌+◌, ◌-◌, Bool, ◌&&◌, false, List, [], ◌++◌, drop, length, find, nat_lt, nat_le, slice_index_or, slice_set, Option, None, if◌then◌else◌}
 use Rattle.std.specs.List.{fold, position_or_len}
 use Rattle.prop_core.specs.declared.lit.Lit.{Lit}
 use Rattle.prop_core.specs.Clauses.{Clause, is_open}
@@ -20,6 +20,10 @@ pub record Tries : Type 0 where
 -- these literals are tried, from the first on
 abbrev pub from_first : List Lit → Tries
 from_first literals = record { literals = literals; next = 0 }
+
+-- these literals are tried too, behind the others
+abbrev pub tried_behind : Tries → List Lit → Tries
+tried_behind t further = record t { literals = t.literals ++ further }
 
 -- a literal can be decided: its variable is below `vars`, and it is open
 abbrev pub can_be_decided : List Lit → ℕ → Lit → Bool

@@ -10,7 +10,7 @@
 ghost use Rattle.std.specs.Prelude.{◌≡◌, OnOk, OnErr};
 ghost use Rattle.prop_core.specs.Derivation.{clause_numbered};
 ghost use Rattle.sat_solve.specs.Activity.{after_conflict, with_clause_part, with_option_part};
-ghost use Rattle.sat_solve.specs.Advice.{from_first, no_advice, with_advice, KeepsAdvice, next_try, after_next_try, phase_of, with_unassigned, with_hints_part, last_hints};
+ghost use Rattle.sat_solve.specs.Advice.{from_first, tried_behind, no_advice, with_advice, KeepsAdvice, next_try, after_next_try, phase_of, with_unassigned, with_hints_part, last_hints};
 ghost use Rattle.sat_solve.specs.Heap.{held_of, Takes};
 ghost use Rattle.sat_solve.specs.LevelCount.{AreLevelsOf, marked_of};
 ghost use Rattle.sat_solve.specs.Restarts.{with_learnt_clause, is_due, after_asking};
@@ -65,6 +65,14 @@ impl Advice {
         ensures { self.new ≡ record self.old { tries = from_first lits.items } }
     {
         self.tries.replace(lits);
+    }
+
+    // These literals are tried too, behind the others.
+    pub fn try_further(&mut self, lits: &[Lit]) -> Result<(), Memory>
+        ensures ok { OnOk result (self.new ≡ record self.old { tries = tried_behind self.old.tries lits.now }) }
+        ensures err { OnErr result (self.new ≡ self.old) }
+    {
+        self.tries.extend(lits)
     }
 
     // The first literal to be tried that is known and open, where the search is no short one.

@@ -1,10 +1,11 @@
 // What a search decides before any suggestion: literals, in the order in which they were given.
 //
 // Whoever gives them expects that each is refuted at once where those before it were, by a short clause. No contract says that it is.
-ghost use Rattle.std.specs.Prelude.{◌≡◌, ◌+◌, ◌≤◌, [], drop, length};
+ghost use Rattle.std.specs.Prelude.{◌≡◌, ◌+◌, ◌≤◌, [], drop, length, OnOk, OnErr};
 ghost use Rattle.std.specs.List.{position_or_len};
-ghost use Rattle.sat_solve.specs.Advice.{from_first, can_be_decided, first_open_try, at_first_open_try};
+ghost use Rattle.sat_solve.specs.Advice.{from_first, tried_behind, can_be_decided, first_open_try, at_first_open_try};
 
+use des_base::Memory;
 use prop_core::Lit;
 use sat_prop::Trail;
 use std::alloc::Global;
@@ -45,6 +46,15 @@ impl FirstTries {
     {
         self.begin_anew();
         self.lits = lits;
+    }
+
+    // These are tried too, behind the others.
+    pub fn extend(&mut self, lits: &[Lit]) -> Result<(), Memory>
+        ensures ok { OnOk result (self.new ≡ tried_behind self.old lits.now) }
+        ensures err { OnErr result (self.new ≡ self.old) }
+    {
+        self.lits.extend_from_slice(lits)?;
+        Ok(())
     }
 
     // The search went back, so that any may be open again.

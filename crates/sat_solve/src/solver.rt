@@ -117,6 +117,14 @@ impl<R: Fn(u32) -> u64> Solver<R> {
         self.search.advice.try_first(lits);
     }
 
+    /// Takes further advice: these literals are decided behind those of [`Solver::try_first`], and before any other. If memory runs out,
+    /// they aren't.
+    pub fn try_further(&mut self, lits: &[Lit]) -> Result<(), Memory>
+        ensures { self.new ≡ self.old }
+    {
+        self.search.advice.try_further(lits)
+    }
+
     /// Searches for an assignment that makes all clauses of the book and all assumptions true. At most as many clauses are learnt as the
     /// budget has; it is lowered by one for each.
     pub fn solve(
