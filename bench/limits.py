@@ -28,8 +28,8 @@ their counts event by event, the labels of an alarm as a set, the advice of dead
 | `cheapest`, 30, 100, 300 fault events, beside `diagnose` (memory) | 14 (2.8), 6.3 (9.1), 3.5 (11.6) | 14 (2.8), 8.9 (9.1), 5.0 (11.7) | 4 (1.5) |
 | `twin`, 40 devices, 200 steps, AFTER 100 | 16.9 bytes a literal | 8.7 | 5.2 |
 
-`cheapest` can't get there while it writes its whole scale first, as its contract says: 1,001 variables and up to 2,002 clauses for each fault event and step, so 1.8 million variables and up to 3.6 million clauses for 300 fault events in 6 steps, each of which a question with an answer decides by itself. What is left of the largest model is mostly reading it,
-and the lists of touching events of `step_encode`, which asks each component for each event.
+`cheapest` can't get there while it writes its whole scale first, as its contract says: 1,001 variables and up to 2,002 clauses for each fault event and step, so 1.8 million variables and up to 3.6 million clauses for 300 fault events in 6 steps, each of which a question with an answer decides by itself. A third of what is left of the largest model (of its instructions) are
+the lists of touching events of `step_encode`, which asks each component for each event.
 """
 import os
 import random
