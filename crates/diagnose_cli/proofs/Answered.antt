@@ -4,9 +4,6 @@ use Rattle.std.specs.Prelude.{⊤}
 use Rattle.des_base.specs.CommandWords.{word_at}
 use Rattle.des_base.specs.Outside.{Took}
 use Rattle.proof_ledger.specs.Book.{BookEntry}
-use Rattle.diagnose_cli.specs.declared.command.Command.{Command}
-use Rattle.diagnose_cli.specs.declared.command.Command.TheVariants.{One}
-use Rattle.diagnose_cli.specs.declared.command.Single.{Single}
 use Rattle.endings.specs.declared.ending.Kind.{Kind}
 use Rattle.endings.specs.declared.ending.Kind.TheVariants.{Done, Rejected, Absent, Undecided, Many, Nothing, Ambiguous}
 use Rattle.endings.specs.declared.stop.Stop.{Stop}
@@ -17,9 +14,10 @@ use Rattle.endings.specs.Transcripts.{End, said, cut, broken, Ending, EndsOne, T
 use Rattle.endings.specs.Endings.{HasStatus, status_of_end, status_of_kind, status_of_stop, status_of_faulty, ending_texts}
 use Rattle.endings.specs.Files.{Loads, StopsAt, WithFile}
 use Rattle.endings.specs.Texts.{FileKind, limit_of, fault_of_text}
-use Rattle.diagnose_cli.specs.Commands.{files_of, command_of}
+use Rattle.diagnose_cli.specs.Commands.{IsListed, command_of}
+use Rattle.diagnose_cli.specs.Tasks.{Called, Calls, MatchCalled, NamedCommand, Reply, Task, one, told_once}
+use Rattle.diagnose_cli.proofs.Called.{called_so}
 use Rattle.diagnose_cli.specs.Due.{halts, Says, Closes, InOrder, MayAnswer}
-use Rattle.diagnose_cli.specs.Tasks.{MayReply, single_task}
 use Rattle.diagnose_cli.specs.Outcomes.{IsPut, Outcome, ShowsReply}
 use Rattle.diagnose_cli.specs.Rows.{AreRead, AreTold, CallsWith, ReadsFiles}
 use Rattle.diagnose_cli.specs.Run.{Ends}
@@ -41,12 +39,13 @@ told o P (Ok t) four one shown put = record {
 }
 told o P (Err stop) four one shown put = absurd one
 
-pub called : (l : Loads) (words : List (List ℕ)) (book : List BookEntry) (o : Option Command) (c : Command) (e : Ending) → o ≡ Some c → MatchOption o (e ≡ Err Usage) (λ c. MayAnswer l words c book e) → MayAnswer l words c book e
-called l words book None c e is h = cc
-called l words book (Some d) c e is h = subst (λ (c : Command). MayAnswer l words c book e) (same is) h
-  where
-    same : Some d ≡ Some c → d ≡ c
-    same is = cc
+pub called : (l : Loads) (words : List (List ℕ)) (book : List BookEntry) (k : Called) (t : Task Transcript) (e : Ending) → k ≡ Calls t → MatchCalled k (e ≡ Err Usage) (λ s. MayAnswer l words s book e) → MayAnswer l words t book e
+called l words book k t e is h = subst (λ (k : Called). MatchCalled k (e ≡ Err Usage) (λ s. MayAnswer l words s book e)) is h
+
+-- beside that enough decides
+pub only_said : (t : Task Transcript) (words : List (List ℕ)) (book : List BookEntry) (texts : List (List ℕ)) (e : Ending) → IsOkAnd e (Says t words book texts) → IsOkAnd e (t.says words book texts)
+only_said t words book texts (Ok told) h = h.says
+only_said t words book texts (Err stop) h = absurd h
 
 -- ---- over files that are told, not too long and well
 
@@ -99,19 +98,21 @@ closed l words i (kind ∷ kinds) files (text ∷ texts) closes e answer read h 
     (closed l words (i + 1) kinds (files ++ text ∷ []) texts closes e answer read.1 rest)
 
 -- it says what the command may
-pub said_in_all : (o : Outcome) (c : Command) (texts : List (List ℕ)) (ends : Ends o) → ReadsFiles o c texts → o.status ≢ 3 → o.status ≢ 9 → IsOkAnd ends.ending (Says c o.words o.book texts)
-said_in_all o c texts ends reads three nine =
+pub said_in_all : (o : Outcome) (t : Task Transcript) (texts : List (List ℕ)) (ends : Ends o) → command_of o.words ≡ Calls t → AreRead o.loads.held o.words 1 t.files [] texts → halts t o.words texts ≡ None → o.status ≢ 3 → o.status ≢ 9 → IsOkAnd ends.ending (Says t o.words o.book texts)
+said_in_all o t texts ends command files small three nine =
     let e = ends.ending in
     let answer : HasAnswer e = record {
       memory = λ p. nine (subst (λ (x : Ending). HasStatus x o.status) p ends.shown);
       load = λ j p. three (subst (λ (x : Ending). HasStatus x o.status) p ends.shown);
     } in
-    let closes = closed o.loads o.words 1 (files_of c) [] texts (Closes c o.words o.book) e answer reads.files (called o.loads o.words o.book (command_of o.words) c e reads.command (ends.due.says answer.memory).comes) in
-    asked (halts c o.words texts) e (Says c o.words o.book texts) reads.small closes
+    let closes = closed o.loads o.words 1 t.files [] texts (Closes t o.words o.book) e answer files (called o.loads o.words o.book (command_of o.words) t e command (ends.due.says answer.memory).comes) in
+    asked (halts t o.words texts) e (Says t o.words o.book texts) small closes
 
 -- so status and text tell a reply that a command with one may give
-pub row : (o : Outcome) (c : Single) (texts : List (List ℕ)) → Ends o → ReadsFiles o (One c) texts → o.status ≢ 3 → IsPut o.status → ShowsReply o (MayReply c o.words o.book texts)
-row o c texts ends reads three put = told o (MayReply c o.words o.book texts) ends.ending put.written (said_in_all o (One c) texts ends reads three put.memory) ends.shown ends.put
+pub row : (o : Outcome) (c : NamedCommand Reply) → IsListed (one c) o.words → (word : c.Word) (texts : List (List ℕ)) → Ends o → ReadsFiles o (one c) word texts → o.status ≢ 3 → IsPut o.status → ShowsReply o ((c.task word).says o.words o.book texts)
+row o c listed word texts ends reads three put =
+    let says = said_in_all o (told_once (c.task word)) texts ends (called_so (one c) o.words listed word reads.called) reads.files reads.small three put.memory in
+    told o ((c.task word).says o.words o.book texts) ends.ending put.written (only_said (told_once (c.task word)) o.words o.book texts ends.ending says) ends.shown ends.put
 
 -- ---- by the status, whatever is told of the files
 
@@ -209,38 +210,30 @@ over_files l words i (kind ∷ kinds) files closes t h =
 -- ---- one reply or several over such bytes
 
 -- what the command says over them
-pub record ToldOver (o : Outcome) (c : Command) : Type 0 where
+pub record ToldOver (o : Outcome) (t : Task Transcript) : Type 0 where
   pub texts : List (List ℕ)
   pub held : AreHeld o.loads.held o.words 1 texts
-  pub long : length texts ≡ length (files_of c)
+  pub long : length texts ≡ length t.files
   pub told : Transcript
-  pub says : Says c o.words o.book texts told
+  pub says : Says t o.words o.book texts told
   pub shown : o.status ≡ status_of_end told.end
   pub put : Took o.before o.now told.texts
 
-told_by : (o : Outcome) (c : Command) (e : Ending) → (IsStopStatus o.status → ⊥) → MayAnswer o.loads o.words c o.book e → HasStatus e o.status → Took o.before o.now (ending_texts e) → ToldOver o c
-told_by o c (Ok t) answers h shown put =
-    let over = over_files o.loads o.words 1 (files_of c) [] (Closes c o.words o.book) t h in
-    record { texts = over.texts; held = over.held; long = over.long; told = t; says = within (halts c o.words over.texts) t (Says c o.words o.book over.texts) over.closed; shown = shown; put = put }
-told_by o c (Err stop) answers h shown put = absurd (answers (subst IsStopStatus (sym shown) (of_stop stop)))
+told_by : (o : Outcome) (t : Task Transcript) (e : Ending) → (IsStopStatus o.status → ⊥) → MayAnswer o.loads o.words t o.book e → HasStatus e o.status → Took o.before o.now (ending_texts e) → ToldOver o t
+told_by o t (Ok whole) answers h shown put =
+    let over = over_files o.loads o.words 1 t.files [] (Closes t o.words o.book) whole h in
+    record { texts = over.texts; held = over.held; long = over.long; told = whole; says = within (halts t o.words over.texts) whole (Says t o.words o.book over.texts) over.closed; shown = shown; put = put }
+told_by o t (Err stop) answers h shown put = absurd (answers (subst IsStopStatus (sym shown) (of_stop stop)))
 
-pub told_over : (o : Outcome) (c : Command) → Ends o → command_of o.words ≡ Some c → (IsStopStatus o.status → ⊥) → ToldOver o c
-told_over o c ends command answers =
+pub told_over : (o : Outcome) (t : Task Transcript) → Ends o → command_of o.words ≡ Calls t → (IsStopStatus o.status → ⊥) → ToldOver o t
+told_over o t ends command answers =
     let e = ends.ending in
     let memory : e ≢ Err Memory = λ p. answers (subst IsStopStatus (sym (subst (λ (x : Ending). HasStatus x o.status) p ends.shown)) (of_stop Memory)) in
-    told_by o c e answers (called o.loads o.words o.book (command_of o.words) c e command (ends.due.says memory).comes) ends.shown ends.put
+    told_by o t e answers (called o.loads o.words o.book (command_of o.words) t e command (ends.due.says memory).comes) ends.shown ends.put
 
 -- a reply that the command gives over such bytes
-pub record SaidOver (o : Outcome) (c : Single) : Type 0 where
-  pub texts : List (List ℕ)
-  pub held : AreHeld o.loads.held o.words 1 texts
-  pub long : length texts ≡ length (files_of (One c))
-  pub tells : ShowsReply o (MayReply c o.words o.book texts)
-
-pub said_over : (o : Outcome) (c : Single) → Ends o → command_of o.words ≡ Some (One c) → (IsStopStatus o.status → ⊥) → SaidOver o c
-said_over o c ends command answers =
-    let over = told_over o (One c) ends command answers in
-    record { texts = over.texts; held = over.held; long = over.long; tells = told o (MayReply c o.words o.book over.texts) (Ok over.told) (λ four. answers (low_stop o.status (omega (arith, four)) (omega (arith, four)))) over.says over.shown over.put }
+pub reply_told : (o : Outcome) (t : Task Reply) (over : ToldOver o (told_once t)) → (IsStopStatus o.status → ⊥) → ShowsReply o (t.says o.words o.book over.texts)
+reply_told o t over answers = told o (t.says o.words o.book over.texts) (Ok over.told) (λ four. answers (low_stop o.status (omega (arith, four)) (omega (arith, four)))) over.says.says over.shown over.put
 
 -- what is told is held
 pub same_text : (o : Option (List ℕ)) (text held : List ℕ) → o ≡ Some text → IfSome o (λ there. there ≡ held) → text ≡ held
@@ -257,19 +250,14 @@ same_texts held words i (text ∷ texts) (other ∷ others) read told long =
     let rest = same_texts held words (i + 1) texts others read.1 told.1 (omega (arith, long)) in
     cc
 
--- so a command with one reply replies over them, as many as it has files
-pub may_over : (o : Outcome) (c : Single) (texts : List (List ℕ)) → Ends o → CallsWith o (One c) texts → length (files_of (One c)) ≡ length texts → (IsStopStatus o.status → ⊥) → ShowsReply o (MayReply c o.words o.book texts)
-may_over o c texts ends asks many answers =
-    let over = said_over o c ends asks.command answers in
-    subst (λ (ts : List (List ℕ)). ShowsReply o (MayReply c o.words o.book ts)) (same_texts o.loads.held o.words 1 over.texts texts over.held asks.told (over.long ∙ many)) over.tells
+-- so a command says what it may over them, as many as it has files
+pub says_over : (o : Outcome) (t : Task Transcript) (texts : List (List ℕ)) → AreTold o.loads.held o.words 1 texts → length t.files ≡ length texts → (over : ToldOver o t) → Says t o.words o.book texts over.told
+says_over o t texts told many over =
+    subst (λ (ts : List (List ℕ)). Says t o.words o.book ts over.told) (same_texts o.loads.held o.words 1 over.texts texts over.held told (over.long ∙ many)) over.says
 
-pub as_said : (o : Outcome) (c : Single) (texts : List (List ℕ)) → ShowsReply o (MayReply c o.words o.book texts) → ShowsReply o ((single_task c).says o.words o.book texts)
-as_said o c texts tells = record { reply = tells.reply; says = tells.says.says; shown = tells.shown; put = tells.put }
-
-pub reply_over : (o : Outcome) (c : Single) (texts : List (List ℕ)) → Ends o → CallsWith o (One c) texts → length (files_of (One c)) ≡ length texts → (IsStopStatus o.status → ⊥) → ShowsReply o ((single_task c).says o.words o.book texts)
-reply_over o c texts ends asks many answers = as_said o c texts (may_over o c texts ends asks many answers)
-
--- and one with several says what it may
-pub says_over : (o : Outcome) (c : Command) (texts : List (List ℕ)) → CallsWith o c texts → length (files_of c) ≡ length texts → (over : ToldOver o c) → Says c o.words o.book texts over.told
-says_over o c texts asks many over =
-    subst (λ (ts : List (List ℕ)). Says c o.words o.book ts over.told) (same_texts o.loads.held o.words 1 over.texts texts over.held asks.told (over.long ∙ many)) over.says
+-- and one with one reply replies
+pub reply_over : (o : Outcome) (c : NamedCommand Reply) → IsListed (one c) o.words → (word : c.Word) (texts : List (List ℕ)) → Ends o → CallsWith o (one c) word texts → length (c.task word).files ≡ length texts → (IsStopStatus o.status → ⊥) → ShowsReply o ((c.task word).says o.words o.book texts)
+reply_over o c listed word texts ends asks many answers =
+    let t = c.task word in
+    let over = told_over o (told_once t) ends (called_so (one c) o.words listed word asks.called) answers in
+    subst (λ (ts : List (List ℕ)). ShowsReply o (t.says o.words o.book ts)) (same_texts o.loads.held o.words 1 over.texts texts over.held asks.told (over.long ∙ many)) (reply_told o t over answers)

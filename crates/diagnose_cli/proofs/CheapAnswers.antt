@@ -22,11 +22,13 @@ use Rattle.replay.specs.declared.run.RunStep.{RunStep}
 use Rattle.report.proofs.ReadsBack.{printed_runs_read_back}
 use Rattle.report.specs.ReadBack.{IsRunText}
 use Rattle.report.specs.Replies.{CheapEventsKnown, text_of_run}
-use Rattle.diagnose_cli.specs.declared.command.Command.TheVariants.{One}
-use Rattle.diagnose_cli.specs.declared.command.Single.TheVariants.{Cheapest}
 use Rattle.endings.specs.declared.ending.Kind.{Kind}
 use Rattle.diagnose_cli.specs.CheapReplies.{CheapRunReadsBack, SaysCheap, kind_of_cheap}
-use Rattle.diagnose_cli.specs.Tasks.{MayReply, Reply}
+use Rattle.diagnose_cli.specs.Tasks.{Reply, Task, told_once}
+use Rattle.diagnose_cli.specs.Commands.{cheapest}
+use Rattle.diagnose_cli.specs.Due.{Says}
+use Rattle.endings.specs.Transcripts.{whole}
+use Rattle.diagnose_cli.proofs.Ones.{may_say}
 use Rattle.endings.specs.declared.ending.Kind.TheVariants.{Undecided as LeftOpen}
 use Rattle.diagnose_cli.specs.FilesRead.{AreReadThen, IsCaseRead}
 use Rattle.diagnose_cli.specs.Rows.{Leaves}
@@ -88,15 +90,18 @@ module _ (net : Net) (cost : ℕ → ℕ) (alarms : Log) (n budget : ℕ) (book 
   cheap_decided : (reply : Reply) → SaysCheap net cost alarms n budget book reply → 3 ^ cost_variables net alarms n ≤ budget → reply.0 ≢ LeftOpen
   cheap_decided reply says enough is = none_open says.answer says.priced enough (sym (ap (λ (r : Reply). r.0) says.is) ∙ is)
 
-pub may_price : (n budget : ℕ) (words : List (List ℕ)) (book : List BookEntry) (text alarms prices : List ℕ) (table : List (Option ℕ)) (reply : Reply) → IsTableOf (network_of text) prices table → SaysCheap (network_of text) (cost_at table) (log_of alarms) n budget book reply → MayReply (Cheapest n budget) words book (text ∷ alarms ∷ prices ∷ []) reply
+abbrev pub priced : (n budget : ℕ) → Task Reply
+priced n budget = cheapest.task (record { steps = n; budget = budget })
+
+pub may_price : (n budget : ℕ) (words : List (List ℕ)) (book : List BookEntry) (text alarms prices : List ℕ) (table : List (Option ℕ)) (reply : Reply) → IsTableOf (network_of text) prices table → SaysCheap (network_of text) (cost_at table) (log_of alarms) n budget book reply → Says (told_once (priced n budget)) words book (text ∷ alarms ∷ prices ∷ []) (whole reply)
 may_price n budget words book text alarms prices table reply of h =
     let says = says_of_text (network_of text) prices table (log_of alarms) n budget book reply of h in
-    record { says = says; decided = cheap_decided (network_of text) (cost_of (network_of text) prices) (log_of alarms) n budget book reply says }
+    may_say (priced n budget) words book (text ∷ alarms ∷ prices ∷ []) reply says (cheap_decided (network_of text) (cost_of (network_of text) prices) (log_of alarms) n budget book reply says)
 
 -- ---- what it leaves
 
 pub prices_left : (n budget : ℕ) (words : List (List ℕ)) (book : List BookEntry) (case : Case) (table : List (Option ℕ)) → LeavesCosts case.net (cost_at table) case.log n budget book
-    → (texts : List (List ℕ)) → AreReadThen (λ ts (c : Case). IsCaseRead ts c.net c.log) (λ (c : Case) prices t. IsTableOf c.net prices t) texts case table → Leaves (One (Cheapest n budget)) words texts book
+    → (texts : List (List ℕ)) → AreReadThen (λ ts (c : Case). IsCaseRead ts c.net c.log) (λ (c : Case) prices t. IsTableOf c.net prices t) texts case table → Leaves (told_once (priced n budget)) words texts book
 prices_left n budget words book case table left texts read =
-    over_third (λ ts. Leaves (One (Cheapest n budget)) words ts book) texts (λ net log. LeavesCosts net (cost_at table) log n budget book) (λ net prices t. IsTableOf net prices t) table
+    over_third (λ ts. Leaves (told_once (priced n budget)) words ts book) texts (λ net log. LeavesCosts net (cost_at table) log n budget book) (λ net prices t. IsTableOf net prices t) table
     (λ text alarms prices of h same. inr (leaves_alike (network_of text) (cost_at table) (cost_of (network_of text) prices) (as_text (network_of text) prices table of) (log_of alarms) n budget book h)) case read left

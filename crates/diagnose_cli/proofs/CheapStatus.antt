@@ -14,12 +14,12 @@ use Rattle.prop_core.specs.Clauses.{Clause}
 use Rattle.replay.specs.Explanation.{IsAbsent}
 use Rattle.report.specs.Replies.{text_of_cheap}
 use Rattle.run_decode.specs.QuestionAxioms.{question_axioms}
-use Rattle.diagnose_cli.specs.declared.command.Command.TheVariants.{One}
-use Rattle.diagnose_cli.specs.declared.command.Single.TheVariants.{Cheapest}
 use Rattle.endings.specs.declared.ending.Kind.{Kind}
 use Rattle.diagnose_cli.specs.CheapReplies.{SaysCheap, kind_of_cheap}
 use Rattle.diagnose_cli.specs.CheapRows.{TellsCheapest, TellsDear, TellsUnpriced, cost_asked}
 use Rattle.endings.specs.Endings.{status_of_kind}
+use Rattle.diagnose_cli.specs.Commands.{cheapest as cheapest_command}
+use Rattle.diagnose_cli.specs.Tasks.{one}
 use Rattle.diagnose_cli.specs.Outcomes.{Outcome, ShowsReply}
 use Rattle.diagnose_cli.specs.Rows.{CallsWith}
 use Rattle.diagnose_cli.specs.Run.{Ends}
@@ -45,9 +45,9 @@ of_reply o q budget tells = record {
 }
 
 -- over the three texts that are told
-told : (o : Outcome) (n budget : ℕ) (text alarms prices : List ℕ) → Ends o → CallsWith o (One (Cheapest n budget)) (text ∷ alarms ∷ prices ∷ []) → (IsStopStatus o.status → ⊥) → TellsPriced o (cost_asked text alarms prices n) budget
+told : (o : Outcome) (n budget : ℕ) (text alarms prices : List ℕ) → Ends o → CallsWith o (one cheapest_command) (record { steps = n; budget = budget }) (text ∷ alarms ∷ prices ∷ []) → (IsStopStatus o.status → ⊥) → TellsPriced o (cost_asked text alarms prices n) budget
 told o n budget text alarms prices ends asks answers =
-    of_reply o (cost_asked text alarms prices n) budget (reply_over o (Cheapest n budget) (text ∷ alarms ∷ prices ∷ []) ends asks refl answers)
+    of_reply o (cost_asked text alarms prices n) budget (reply_over o cheapest_command refl (record { steps = n; budget = budget }) (text ∷ alarms ∷ prices ∷ []) ends asks refl answers)
 
 -- ---- by the status
 
@@ -97,7 +97,7 @@ module _ (o : Outcome) (q : CostAsked) (budget : ℕ) where
         put = put;
       }
 
-module _ (o : Outcome) (ends : Ends o) (n budget : ℕ) (text alarms prices : List ℕ) (asks : CallsWith o (One (Cheapest n budget)) (text ∷ alarms ∷ prices ∷ [])) where
+module _ (o : Outcome) (ends : Ends o) (n budget : ℕ) (text alarms prices : List ℕ) (asks : CallsWith o (one cheapest_command) (record { steps = n; budget = budget }) (text ∷ alarms ∷ prices ∷ [])) where
   pub cheapest : o.status ≡ 0 → TellsCheapest o (cost_asked text alarms prices n)
   cheapest is =
       let tells = told o n budget text alarms prices ends asks (λ stop. omega (arith, is, stop.low)) in

@@ -1,5 +1,5 @@
 -- The run of what is found replays, and a budget that is large enough decides.
-use Rattle.std.proofs.Common.{[], ◌≢◌, ◌≤◌, ◌^◌, ℕ, List, map, ap, sym, ◌∙◌, refl, arith}
+use Rattle.std.proofs.Common.{◌≢◌, ◌≤◌, ◌^◌, ℕ, List, map, ap, sym, ◌∙◌, refl, arith}
 use Rattle.des_net.specs.Building.{IsDraft}
 use Rattle.des_net.specs.Network.{Net, IsNetwork}
 use Rattle.inquiries.specs.Diagnosed.{IsDiagnosed}
@@ -15,8 +15,7 @@ use Rattle.endings.specs.declared.ending.Kind.{Kind}
 use Rattle.endings.specs.declared.ending.Kind.TheVariants.{Undecided}
 use Rattle.diagnose_cli.specs.Questions.{diagnose_question, AnswersTo}
 use Rattle.diagnose_cli.specs.Replies.{kind_of_found, AnswersQuestion, SaysBenched, SaysFound}
-use Rattle.diagnose_cli.specs.Tasks.{MayReply, Reply}
-use Rattle.diagnose_cli.specs.declared.command.Single.TheVariants.{Bench}
+use Rattle.diagnose_cli.specs.Tasks.{Reply}
 use Rattle.gen_plant.specs.Plant.{plant_net, plant_log}
 use Rattle.diagnose_cli.proofs.RepliesReplay.{run_replays}
 
@@ -46,8 +45,5 @@ module _ (net : Net) (log : Log) (n budget : ℕ) (book : List BookEntry) where
   }
 
 -- a summary of it
-pub may_sum_up : (units start n budget : ℕ) (words : List (List ℕ)) (book : List BookEntry) (reply : Reply) → SaysBenched units start n budget book reply → MayReply (Bench units start n budget) words book [] reply
-may_sum_up units start n budget words book reply says = record {
-  says = says;
-  decided = λ enough is. found_decided (plant_net units) (plant_log units start) n budget book says.found says.holds.diagnosed enough (sym (ap (λ (r : Reply). r.0) says.is) ∙ is);
-}
+pub summary_decided : (units start n budget : ℕ) (book : List BookEntry) (reply : Reply) → SaysBenched units start n budget book reply → 3 ^ variable_bound (plant_net units) (plant_log units start) n ≤ budget → reply.0 ≢ Undecided
+summary_decided units start n budget book reply says enough is = found_decided (plant_net units) (plant_log units start) n budget book says.found says.holds.diagnosed enough (sym (ap (λ (r : Reply). r.0) says.is) ∙ is)

@@ -4,7 +4,6 @@ use Rattle.std.specs.Prelude.{if◌then◌else◌, option_and_then}
 use Rattle.des_base.specs.Outside.{Took}
 use Rattle.des_base.specs.CommandWords.{word_at}
 use Rattle.proof_ledger.specs.Book.{BookEntry}
-use Rattle.diagnose_cli.specs.declared.command.Command.{Command}
 use Rattle.endings.specs.declared.stop.Stop.{Stop}
 use Rattle.endings.specs.declared.stop.Stop.TheVariants.{Usage, Load, Faulty, Long, NoFault, Large, Memory}
 use Rattle.endings.specs.declared.stop.FaultyText.{FaultyText}
@@ -12,7 +11,8 @@ use Rattle.endings.specs.Transcripts.{Ending, Transcript}
 use Rattle.endings.specs.Files.{Loads, StopsAt}
 use Rattle.endings.specs.Endings.{HasStatus, status_of_stop, texts_of_stop, ending_texts}
 use Rattle.endings.specs.Texts.{FileKind, limit_of, fault_of_text}
-use Rattle.diagnose_cli.specs.Commands.{files_of, command_of}
+use Rattle.diagnose_cli.specs.Commands.{command_of}
+use Rattle.diagnose_cli.specs.Tasks.{Called, Calls, MatchCalled, NoCommand}
 use Rattle.diagnose_cli.specs.Due.{halts, Closes, InOrder, MayAnswer}
 use Rattle.diagnose_cli.specs.Exact.{past, first_stop, stop_of_command, StopRow}
 use Rattle.diagnose_cli.specs.Outcomes.{Outcome}
@@ -68,10 +68,10 @@ in_order_exact l words i (kind ∷ kinds) files closes halting e f m n h =
           (past_here (fault_of_text kind files b.0) e _ _ b.2 (in_order_exact l words (i + 1) kinds (files ++ b.0 ∷ []) closes halting e f m n))
     ]
 
-due_exact : (l : Loads) (words : List (List ℕ)) (book : List BookEntry) (o : Option Command) (e : Ending)
-    → e ≢ Err Memory → ((j : ℕ) → e ≢ Err (Load j)) → MatchOption o (e ≡ Err Usage) (λ c. MayAnswer l words c book e) → Is e (stop_of_command l.held words o)
-due_exact l words book None e m n h = h
-due_exact l words book (Some c) e m n h = in_order_exact l words 1 (files_of c) [] (Closes c words book) (halts c words) e (λ texts. closes_here (halts c words texts) e _) m n h
+due_exact : (l : Loads) (words : List (List ℕ)) (book : List BookEntry) (k : Called) (e : Ending)
+    → e ≢ Err Memory → ((j : ℕ) → e ≢ Err (Load j)) → MatchCalled k (e ≡ Err Usage) (λ t. MayAnswer l words t book e) → Is e (stop_of_command l.held words k)
+due_exact l words book NoCommand e m n h = h
+due_exact l words book (Calls t) e m n h = in_order_exact l words 1 t.files [] (Closes t words book) (halts t words) e (λ texts. closes_here (halts t words texts) e _) m n h
 
 row_here : (stop : Option Stop) (o : Outcome) (e : Ending) → Is e stop → HasStatus e o.status → Took o.before o.now (ending_texts e) → IfSome stop (λ stop. (o.status ≡ status_of_stop stop) × Took o.before o.now (texts_of_stop stop))
 row_here None o e h p t = tt

@@ -1,15 +1,15 @@
 -- What a failed load says, whichever command the words call.
-use Rattle.std.proofs.Common.{◌≡◌, ◌≢◌, inl, inr, ℕ, ◌+◌, ◌≤◌, List, [], ◌∷◌, ◌++◌, length, Bool, true, false, Option, Some, None, Ok, Err, IsOkAnd, MatchOption, sym, ap, subst, arith, IsSomeAnd}
+use Rattle.std.proofs.Common.{◌≡◌, ◌≢◌, inl, inr, ℕ, ◌+◌, ◌≤◌, List, [], ◌∷◌, ◌++◌, length, Bool, true, false, Option, Some, None, Ok, Err, IsOkAnd, MatchOption, sym, ap, subst, arith}
 use Rattle.des_base.specs.Outside.{Took}
-use Rattle.diagnose_cli.specs.declared.command.Command.{Command}
 use Rattle.endings.specs.declared.stop.Stop.TheVariants.{Usage, Load, Faulty, Long, NoFault, Large, Memory}
 use Rattle.endings.specs.declared.stop.FaultyText.{FaultyText}
 use Rattle.endings.specs.Transcripts.{End, said, cut, broken, Ending, Transcript, UnlessMemory}
 use Rattle.endings.specs.Endings.{HasStatus, status_of_end, ending_texts}
 use Rattle.endings.specs.Texts.{FileKind, fault_of_text}
 use Rattle.diagnose_cli.proofs.Answered.{IsStopStatus, faulty_high, low_stop, no_stop_kind}
-use Rattle.diagnose_cli.specs.Commands.{files_of, file_count, command_of}
-use Rattle.diagnose_cli.specs.Due.{Says, lacks_fault, stop_by, too_large, Closes, InOrder, MayAnswer, Due}
+use Rattle.diagnose_cli.specs.Commands.{command_of}
+use Rattle.diagnose_cli.specs.Tasks.{Called, Calls, MatchCalled, NoCommand, Task}
+use Rattle.diagnose_cli.specs.Due.{Says, stop_by, too_large, Closes, InOrder, MayAnswer, Due}
 use Rattle.diagnose_cli.specs.Outcomes.{Outcome}
 use Rattle.diagnose_cli.specs.Run.{Ends, RoseFor, LoadRow}
 
@@ -46,10 +46,10 @@ never_closes j true o says h = cc
 never_closes j false None says h = absurd h
 never_closes j false (Some size) says h = cc
 
-rose_at : (o : Outcome) (j : ℕ) (called : Option Command) → MatchOption called (failed j ≡ Err Usage) (λ c. MayAnswer o.loads o.words c o.book (failed j)) → IsSomeAnd called (λ c. (1 ≤ j) × (j ≤ file_count c)) × RoseFor o j
-rose_at o j None m = absurd (no_usage j m)
-rose_at o j (Some c) m =
-    let rose = rose_in_order o (file_count c) 1 (files_of c) [] (Closes c o.words o.book) j (λ texts. never_closes j (lacks_fault c o.words texts) (too_large c texts) (Says c o.words o.book texts)) (omega arith) (omega arith) m in
+rose_at : (o : Outcome) (j : ℕ) (k : Called) → MatchCalled k (failed j ≡ Err Usage) (λ t. MayAnswer o.loads o.words t o.book (failed j)) → MatchCalled k ⊥ (λ t. (1 ≤ j) × (j ≤ length t.files)) × RoseFor o j
+rose_at o j NoCommand m = absurd (no_usage j m)
+rose_at o j (Calls t) m =
+    let rose = rose_in_order o (length t.files) 1 t.files [] (Closes t o.words o.book) j (λ texts. never_closes j (t.lacks_fault o.words texts) (too_large t texts) (Says t o.words o.book texts)) (omega arith) (omega arith) m in
     ((rose.first, rose.within), rose.rose)
 
 no_load_end : (end : End) → 3 ≡ status_of_end end → ⊥
@@ -73,9 +73,9 @@ pub load_row : (o : Outcome) → Ends o → o.status ≡ 3 → LoadRow o
 load_row o e p = load_row_of o e.ending (λ memory. (e.due.says memory).comes) (subst (HasStatus e.ending) p e.shown) e.put
 
 -- a command without files has none that fails
-pub no_load_failed : (o : Outcome) (c : Command) → Ends o → command_of o.words ≡ Some c → files_of c ≡ [] → o.status ≢ 3
-no_load_failed o c ends command none three =
+pub no_load_failed : (o : Outcome) (t : Task Transcript) → Ends o → command_of o.words ≡ Calls t → t.files ≡ [] → o.status ≢ 3
+no_load_failed o t ends command none three =
     let row = load_row o ends three in
-    let known = subst (λ (called : Option Command). IsSomeAnd called (λ d. (1 ≤ row.file) × (row.file ≤ file_count d))) command row.known in
-    let count : file_count c ≡ 0 = ap length none in
+    let known = subst (λ (k : Called). MatchCalled k ⊥ (λ d. (1 ≤ row.file) × (row.file ≤ length d.files))) command row.known in
+    let count : length t.files ≡ 0 = ap length none in
     omega (arith, known.0, known.1, count)

@@ -3,19 +3,18 @@ use Rattle.std.proofs.Common.{suc, ◌≡◌, ◌≤◌, inl, inr, ℕ, ◌+◌,
 use Rattle.std.specs.Prelude.{nat_eq}
 use Rattle.std.proofs.lemmas.Bool.{eqb-true, eq-eqb}
 use Rattle.proof_ledger.specs.Book.{BookEntry}
-use Rattle.diagnose_cli.specs.declared.command.Command.{Command}
 use Rattle.endings.specs.declared.stop.Stop.{Stop}
 use Rattle.endings.specs.declared.stop.FaultyText.{FaultyText}
 use Rattle.des_base.specs.CommandWords.{word_at}
 use Rattle.endings.specs.Files.{IsReadAs, IsText, Loads, StopsIn}
 use Rattle.endings.specs.Texts.{FileKind, fault_of_text, limit_of}
-use Rattle.endings.specs.Transcripts.{Ending}
-use Rattle.diagnose_cli.specs.Commands.{files_of}
+use Rattle.endings.specs.Transcripts.{Ending, Transcript}
+use Rattle.diagnose_cli.specs.Tasks.{Task}
 use Rattle.diagnose_cli.specs.Due.{InOrder}
 use Rattle.diagnose_cli.specs.FilesRead.{AreBytes, AreReadAs, AreReadThen, StopsAmong}
-use Rattle.diagnose_cli.specs.Rows.{AreTold, Leaves}
+use Rattle.diagnose_cli.specs.Rows.{AreTold, Leaves, LeavesOver}
 use Rattle.diagnose_cli.proofs.Answered.{same_text}
-use Rattle.diagnose_cli.proofs.Left.{LeftBy, other_left}
+use Rattle.diagnose_cli.proofs.Left.{other_left}
 use Rattle.diagnose_cli.proofs.Orders.{goes_on, stops_here, stops_in_earlier}
 
 module _ (l : Loads) (words : List (List ℕ)) (closes : List (List ℕ) → Ending → Type 0) where
@@ -50,12 +49,12 @@ bytes_told held words i (kind ∷ kinds) files (text ∷ texts) (other ∷ other
     cc
 
 -- what is left over the files that are read is left over those that are told
-pub left_over : (held : List ℕ → Option (List ℕ)) (c : Command) (words : List (List ℕ)) (book : List BookEntry) (texts : List (List ℕ)) → AreBytes held words 1 (files_of c) [] texts → Leaves c words texts book → LeftBy held words book c
-left_over held c words book texts read left others told = by (nat_eq (length others) (length (files_of c))) refl
+pub left_over : (held : List ℕ → Option (List ℕ)) (t : Task Transcript) (words : List (List ℕ)) (book : List BookEntry) (texts : List (List ℕ)) → AreBytes held words 1 t.files [] texts → Leaves t words texts book → LeavesOver held words book t
+left_over held t words book texts read left others told = by (nat_eq (length others) (length t.files)) refl
   where
-    by : (b : Bool) → nat_eq (length others) (length (files_of c)) ≡ b → Leaves c words others book
-    by true is = subst (λ (t : List (List ℕ)). Leaves c words t book) (bytes_told held words 1 (files_of c) [] texts others read told (eqb-true (length others) (length (files_of c)) is)) left
-    by false is = other_left c words others book (λ long. let yes = eq-eqb (length others) (length (files_of c)) long in cc)
+    by : (b : Bool) → nat_eq (length others) (length t.files) ≡ b → Leaves t words others book
+    by true is = subst (λ (ts : List (List ℕ)). Leaves t words ts book) (bytes_told held words 1 t.files [] texts others read told (eqb-true (length others) (length t.files) is)) left
+    by false is = other_left t words others book (λ long. let yes = eq-eqb (length others) (length t.files) long in cc)
 
 -- ---- one more behind others
 

@@ -25,7 +25,6 @@ mod ProofAnswers
 mod TwinAnswers
 mod CheapAnswers
 mod Left
-mod Spelled
 mod Requested
 mod SessionAnswers
 mod VerdictAnswers
@@ -33,3 +32,5 @@ mod SessionFronts
 mod SessionEnds
 mod FilesInOrder
 mod ReadOver
+mod Dues
+mod Plants

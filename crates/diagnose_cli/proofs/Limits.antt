@@ -1,13 +1,16 @@
 -- Sizes on both sides of the limit.
-use Rattle.std.proofs.Common.{◌≡◌, ◌∙◌, ◌≤◌, ◌<◌, ℕ, List, Option, Some, None, Ok, Err, IsOkAnd, MatchOption, ap, sym, subst, Bool, refl}
+use Rattle.std.proofs.Common.{◌≢◌, ◌≡◌, ◌∙◌, ◌≤◌, ◌<◌, ℕ, List, Option, Some, None, Ok, Err, IsOkAnd, MatchOption, ap, sym, subst, Bool, refl}
 use Rattle.std.specs.Prelude.{if◌then◌else◌, option_map}
 use Rattle.least_faults.specs.declared.TheConstants.{MOST_SIZE}
 use Rattle.endings.specs.declared.ending.Kind.{Kind}
 use Rattle.endings.specs.declared.stop.Stop.{Stop}
 use Rattle.endings.specs.declared.stop.Stop.TheVariants.{Large}
-use Rattle.endings.specs.Transcripts.{Ending, IsOne, Transcript, once}
+use Rattle.endings.specs.Transcripts.{End, Ending, EndsOne, IsOne, Transcript, broken, cut, once, said}
 use Rattle.diagnose_cli.proofs.Ones.{is_one}
-use Rattle.diagnose_cli.specs.Due.{EndsBySize, above_limit}
+use Rattle.diagnose_cli.specs.Due.{EndsBySize, Says, above_limit}
+use Rattle.diagnose_cli.specs.Tasks.{Reply, Task, told_once}
+use Rattle.proof_ledger.specs.Book.{BookEntry}
+use Rattle.endings.specs.declared.ending.Kind.TheVariants.{Undecided}
 use Rattle.des_base.proofs.BoolLemmas.{is_less, not_less}
 
 pub within_limit : (size : ℕ) → size ≤ MOST_SIZE → above_limit size ≡ None
@@ -30,11 +33,29 @@ ends_within size k says e is small h = ends_by size None says e (within_limit si
 pub ends_said : (size k : ℕ) (P : (Kind × List ℕ) → Type 0) (reply : Kind × List ℕ) → k ≡ size → k ≤ MOST_SIZE → P reply → EndsBySize size (IsOne P) (once (Ok reply))
 ends_said size k P reply is small says = ends_within size k (IsOne P) (once (Ok reply)) is small (is_one P reply says)
 
--- what holds of each reply that may be said
-pub stop_weaker : (o : Option Stop) (P Q : (Kind × List ℕ) → Type 0) (e : Ending) → ((reply : Kind × List ℕ) → P reply → Q reply) → MatchOption o (IsOkAnd e (IsOne P)) (λ stop. e ≡ Err stop) → MatchOption o (IsOkAnd e (IsOne Q)) (λ stop. e ≡ Err stop)
-stop_weaker None P Q (Ok told) f h = record { reply = h.reply; says = f h.reply h.says; alone = h.alone; ends = h.ends }
+-- what may be said in its place
+pub stop_weaker : (o : Option Stop) (P Q : Transcript → Type 0) (e : Ending) → ((told : Transcript) → P told → Q told) → MatchOption o (IsOkAnd e P) (λ stop. e ≡ Err stop) → MatchOption o (IsOkAnd e Q) (λ stop. e ≡ Err stop)
+stop_weaker None P Q (Ok told) f h = f told h
 stop_weaker None P Q (Err stop) f h = absurd h
 stop_weaker (Some stop) P Q e f h = h
 
-pub ends_weaker : (size : ℕ) (P Q : (Kind × List ℕ) → Type 0) (e : Ending) → ((reply : Kind × List ℕ) → P reply → Q reply) → EndsBySize size (IsOne P) e → EndsBySize size (IsOne Q) e
+pub ends_weaker : (size : ℕ) (P Q : Transcript → Type 0) (e : Ending) → ((told : Transcript) → P told → Q told) → EndsBySize size P e → EndsBySize size Q e
 ends_weaker size P Q e f h = stop_weaker (option_map (λ n. Large n) (above_limit size)) P Q e f h
+
+-- one reply that the task has is said
+module _ (t : Task Reply) (words : List (List ℕ)) (book : List BookEntry) (texts : List (List ℕ)) (P : Reply → Type 0) (has : (reply : Reply) → P reply → t.says words book texts reply × (t.enough words texts → reply.0 ≢ Undecided)) where
+  none_open : (kind : Kind) (end : End) → kind ≢ Undecided → EndsOne kind end → end ≢ said Undecided
+  none_open kind (said other) decided is end = decided (sym is ∙ same other end)
+    where
+      same : (k : Kind) → ◌≡◌ {A = End} (said k) (said Undecided) → k ≡ Undecided
+      same k is = cc
+  none_open kind cut decided is end = cc
+  none_open kind broken decided is end = absurd is
+
+  pub says_one : (told : Transcript) → IsOne P told → Says (told_once t) words book texts told
+  says_one told h =
+      let reply = has h.reply h.says in
+      record {
+        says = record { reply = h.reply; says = reply.0; alone = h.alone; ends = h.ends };
+        decided = λ enough. none_open h.reply.0 told.end (reply.1 enough) h.ends;
+      }

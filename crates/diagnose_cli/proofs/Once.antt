@@ -1,18 +1,18 @@
 -- The run of a command, which has one reply or several.
-use Rattle.std.proofs.Common.{◌≡◌, ◌≢◌, ◌∙◌, arith, inl, inr, ℕ, IfErr, IfOk, List, [], ◌∷◌, Some, Result, Ok, Err, refl, sym, ap, subst}
+use Rattle.std.proofs.Common.{◌≡◌, ◌≢◌, ◌∙◌, arith, inl, inr, ℕ, IfErr, IfOk, List, [], ◌∷◌, Result, Ok, Err, refl, sym, ap, subst}
 use Rattle.des_base.specs.Outside.{Output}
 use Rattle.proof_ledger.specs.Book.{BookEntry}
-use Rattle.diagnose_cli.specs.declared.command.Command.{Command}
-use Rattle.diagnose_cli.specs.declared.command.Command.TheVariants.{One, Session}
-use Rattle.diagnose_cli.specs.declared.command.Single.{Single}
-use Rattle.diagnose_cli.specs.declared.command.Single.TheVariants.{Trace, Show, Replay, Check, Ask, GenerateModel, GenerateLog, Bench, Twin, Cheapest}
 use Rattle.endings.specs.declared.ending.Kind.{Kind}
 use Rattle.endings.specs.declared.stop.Stop.{Stop}
 use Rattle.endings.specs.declared.stop.Stop.TheVariants.{Memory}
 use Rattle.endings.specs.Transcripts.{Ending, cut_short, once}
 use Rattle.endings.specs.Endings.{HasStatus, status_of_stop}
 use Rattle.endings.specs.Files.{Loads}
-use Rattle.diagnose_cli.specs.Commands.{command_of, files_of}
+use Rattle.diagnose_cli.specs.declared.generate_command.PlantText.TheVariants.{Model, Log}
+use Rattle.diagnose_cli.specs.Commands.{IsListed, asking, bench, cheapest as cheapest_command, check, generate, replay, show, trace, twin}
+use Rattle.diagnose_cli.specs.Questions.{NamedQuestion, cnf_question, diagnose_question, proof_question}
+use Rattle.diagnose_cli.specs.Tasks.{NamedCommand, Reply, one, told_once}
+use Rattle.diagnose_cli.proofs.Called.{called_so}
 use Rattle.diagnose_cli.specs.Due.{Due, HasNotBegun, StopsEmpty}
 use Rattle.endings.specs.Puts.{Puts, Speaks}
 use Rattle.diagnose_cli.specs.Outcomes.{Outcome, outcome}
@@ -33,10 +33,6 @@ use Rattle.diagnose_cli.proofs.UsageRows.{usage_row}
 use Rattle.diagnose_cli.proofs.VerdictStatus.{is_put, left_open, none_explains, too_many, verdicts_row, verdicts_told}
 use Rattle.diagnose_cli.specs.VerdictRows.{VerdictRows}
 
--- which is no session
-pub no_session : (words : List (List ℕ)) (c : Command) (book : List BookEntry) → command_of words ≡ Some c → ((steps budget : ℕ) → Some c ≡ Some (Session steps budget) → ⊥) → HasNotBegun words book
-no_session words c book called other steps budget is = absurd (other steps budget (sym called ∙ is))
-
 -- ---- what the run of a command does that says what is due
 
 module _ (o : Outcome) (rose : Type 0) (speaks : Speaks (StopsEmpty (Due o.loads o.words o.book) o.book) (HasNotBegun o.words o.book) o.before o.now rose o.status) where
@@ -48,18 +44,21 @@ module _ (o : Outcome) (rose : Type 0) (speaks : Speaks (StopsEmpty (Due o.loads
     load_failed = λ three. load_row o (speaks.ends (λ four. omega (arith, three, four))) three;
     put_failed = speaks.put_failed;
     cut_off = speaks.cut_off;
-    decided = λ c texts asks enough is. decided_row o (speaks.ends (λ four. omega (arith, is, four))) c texts asks enough is;
+    decided = decided_row o (λ is. speaks.ends (λ four. omega (arith, is, four)));
   }
 
   -- by its files
-  row_of : (c : Single) (texts : List (List ℕ)) → Row o c texts
-  row_of c texts reads whole = row o c texts (speaks.ends whole.put.written) reads whole.loaded whole.put
+  row_of : (c : NamedCommand Reply) → IsListed (one c) o.words → (word : c.Word) (texts : List (List ℕ)) → Row o c word texts
+  row_of c listed word texts reads whole = row o c listed word texts (speaks.ends whole.put.written) reads whole.loaded whole.put
+
+  question_row : (question : NamedQuestion) → IsListed (one (asking question)) o.words → (steps : ℕ) (last : question.Word) (text alarms : List ℕ) → Row o (asking question) (steps, last) (text ∷ alarms ∷ [])
+  question_row question listed steps last text alarms = row_of (asking question) listed (steps, last) (text ∷ alarms ∷ [])
 
   -- or without files
-  row_alone : (c : Single) → files_of (One c) ≡ [] → RowAlone o c
-  row_alone c none reads put =
+  row_alone : (c : NamedCommand Reply) → IsListed (one c) o.words → (word : c.Word) → (c.task word).files ≡ [] → RowAlone o c word
+  row_alone c listed word none reads put =
       let e = speaks.ends put.written in
-      row o c [] e reads (no_load_failed o (One c) e reads.command none) put
+      row o c listed word [] e reads (no_load_failed o (told_once (c.task word)) e (called_so (one c) o.words listed word reads.called) none) put
 
   -- an answer hasn't this status
   answered : (k : ℕ) → o.status ≡ k → k ≢ 4 → Ends o
@@ -67,7 +66,7 @@ module _ (o : Outcome) (rose : Type 0) (speaks : Speaks (StopsEmpty (Due o.loads
 
   checked : CheckRows o
   checked = record {
-    checked = λ formula proof. row_of Check (formula ∷ proof ∷ []);
+    checked = λ formula proof. row_of check refl tt (formula ∷ proof ∷ []);
     refuted = λ formula asks zero. refuted o (answered 0 zero (λ p. cc)) formula asks zero;
   }
 
@@ -82,7 +81,7 @@ module _ (o : Outcome) (rose : Type 0) (speaks : Speaks (StopsEmpty (Due o.loads
 
   twinned : TwinRows o
   twinned = record {
-    answered = λ n d budget text. row_of (Twin n d budget) (text ∷ []);
+    answered = λ n d budget text. row_of twin refl (record { steps = n; after = d; budget = budget }) (text ∷ []);
     ambiguous = λ n d budget text asks is. alike o (answered 17 is (λ p. cc)) n d budget text asks is;
     clear = λ n d budget text asks is. clear o (answered 0 is (λ p. cc)) n d budget text asks is;
     undecided = λ n d budget text asks is. untested o (answered 11 is (λ p. cc)) n d budget text asks is;
@@ -91,7 +90,7 @@ module _ (o : Outcome) (rose : Type 0) (speaks : Speaks (StopsEmpty (Due o.loads
 
   priced : CheapRows o
   priced = record {
-    answered = λ n budget text alarms prices. row_of (Cheapest n budget) (text ∷ alarms ∷ prices ∷ []);
+    answered = λ n budget text alarms prices. row_of cheapest_command refl (record { steps = n; budget = budget }) (text ∷ alarms ∷ prices ∷ []);
     cheapest = λ n budget text alarms prices asks is. cheapest o (answered 0 is (λ p. cc)) n budget text alarms prices asks is;
     absent = λ n budget text alarms prices asks is. unexplained o (answered 10 is (λ p. cc)) n budget text alarms prices asks is;
     dear = λ n budget text alarms prices asks is. dear o (answered 12 is (λ p. cc)) n budget text alarms prices asks is;
@@ -109,15 +108,15 @@ module _ (o : Outcome) (rose : Type 0) (speaks : Speaks (StopsEmpty (Due o.loads
 
   does : Does o rose
   does = record {
-    asked = λ steps text alarms. row_of (Ask steps) (text ∷ alarms ∷ []);
+    asked = (question_row diagnose_question refl, (question_row cnf_question refl, (question_row proof_question refl, tt)));
     diagnosed = diagnosed;
-    replayed = λ steps text alarms events. row_of (Replay steps) (text ∷ alarms ∷ events ∷ []);
+    replayed = λ steps text alarms events. row_of replay refl steps (text ∷ alarms ∷ events ∷ []);
     checked = checked;
-    traced = λ text steps. row_of Trace (text ∷ steps ∷ []);
-    shown = λ text. row_of Show (text ∷ []);
-    generated = record { model = λ units start. row_alone (GenerateModel units start) refl; log = λ units start. row_alone (GenerateLog units start) refl };
-    benched = λ units start steps budget. row_alone (Bench units start steps budget) refl;
-    carried_out = λ steps budget text lines reads whole. session_row o steps budget text lines (speaks.ends whole.put.written) reads whole;
+    traced = λ text steps. row_of trace refl tt (text ∷ steps ∷ []);
+    shown = λ text. row_of show refl tt (text ∷ []);
+    generated = record { model = λ units start. row_alone generate refl (record { text = Model; units = units; start = start }) refl; log = λ units start. row_alone generate refl (record { text = Log; units = units; start = start }) refl };
+    benched = λ units start limits. row_alone bench refl (record { units = units; start = start; limits = limits }) refl;
+    carried_out = λ limits text lines reads whole. session_row o limits text lines (speaks.ends whole.put.written) reads whole;
     twinned = twinned;
     judged = judged;
     priced = priced;

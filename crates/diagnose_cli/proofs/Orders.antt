@@ -2,7 +2,6 @@
 use Rattle.std.proofs.Common.{◌≡◌, ◌≢◌, ◌≤◌, inl, inr, ℕ, ◌+◌, List, [], ◌∷◌, ◌++◌, Option, Some, None, Result, Ok, Err, IsErrAnd, IfErr, MatchOption, refl, sym, subst, ◌∙◌}
 use Rattle.des_base.specs.CommandWords.{word_at}
 use Rattle.proof_ledger.specs.Book.{BookEntry}
-use Rattle.diagnose_cli.specs.declared.command.Command.{Command}
 use Rattle.endings.specs.declared.ending.Kind.{Kind}
 use Rattle.endings.specs.declared.stop.Stop.{Stop}
 use Rattle.endings.specs.declared.stop.Stop.TheVariants.{Usage, Faulty, Memory}
@@ -11,6 +10,7 @@ use Rattle.endings.specs.Transcripts.{Ending, once, UnlessMemory}
 use Rattle.endings.specs.Files.{Loads, IsText, IsFileFault, StopsIn}
 use Rattle.endings.specs.Texts.{FileKind, limit_of, fault_of_text}
 use Rattle.diagnose_cli.specs.Commands.{command_of}
+use Rattle.diagnose_cli.specs.Tasks.{Called, MatchCalled, NoCommand}
 use Rattle.diagnose_cli.specs.Due.{InOrder, MayAnswer, Due}
 use Rattle.endings.proofs.Earlier.{stops_earlier}
 
@@ -66,5 +66,5 @@ memory_free (Err e) P is m = absurd (m (same is))
     same is = cc
 
 -- that they call no command is due for words that call none
-pub usage_due : (l : Loads) (words : List (List ℕ)) (book : List BookEntry) → command_of words ≡ None → Due l words book (Err Usage)
-usage_due l words book is = subst (λ (o : Option Command). MatchOption o (◌≡◌ {A = Ending} (Err Usage) (Err Usage)) (λ c. MayAnswer l words c book (Err Usage))) (sym is) refl
+pub usage_due : (l : Loads) (words : List (List ℕ)) (book : List BookEntry) → command_of words ≡ NoCommand → Due l words book (Err Usage)
+usage_due l words book is = subst (λ (k : Called). MatchCalled k (◌≡◌ {A = Ending} (Err Usage) (Err Usage)) (λ t. MayAnswer l words t book (Err Usage))) (sym is) refl

@@ -1,23 +1,24 @@
 -- How a session ends, by how its rows went.
-use Rattle.std.proofs.Common.{◌≡◌, ◌≢◌, ◌≤◌, ℕ, List, [], Option, Some, Result, Ok, Err, IsErrOf, IsOkAnd, MatchOption, refl, sym, ap, subst, arith}
+use Rattle.std.proofs.Common.{◌≡◌, ◌≢◌, ◌≤◌, ℕ, List, [], Option, Result, Ok, Err, IsErrOf, IsOkAnd, refl, sym, ap, subst, arith}
 use Rattle.des_base.specs.Outside.{Output}
 use Rattle.least_faults.specs.declared.TheConstants.{MOST_SIZE}
 use Rattle.proof_ledger.specs.Book.{BookEntry}
-use Rattle.diagnose_cli.specs.declared.command.Command.{Command}
 use Rattle.telling.specs.declared.each.Broken.{Broken}
 use Rattle.telling.specs.declared.each.Broken.TheVariants.{Memory, Put}
 use Rattle.endings.specs.declared.ending.Kind.{Kind}
 use Rattle.endings.specs.declared.stop.Stop.{Stop}
 use Rattle.endings.specs.declared.stop.Stop.TheVariants.{Usage, Memory as NoMemory}
 use Rattle.diagnose_cli.specs.FilesRead.{AreBytes, StopsAmong}
-use Rattle.diagnose_cli.specs.Commands.{command_of, files_of}
-use Rattle.diagnose_cli.specs.Due.{MayAnswer, Closes, Due, EndsBySize, HasNotBegun, StopsEmpty}
+use Rattle.diagnose_cli.specs.Commands.{command_of}
+use Rattle.diagnose_cli.specs.Tasks.{Called, Calls, IfCalled, MatchCalled, Task}
+use Rattle.diagnose_cli.specs.Rows.{LeavesOver, LeftBy}
+use Rattle.diagnose_cli.specs.Due.{MayAnswer, Closes, Due, EndsBySize, HasNotBegun, Says, StopsEmpty}
 use Rattle.endings.specs.Files.{Loads}
 use Rattle.endings.specs.Puts.{Finishes, Speaks}
 use Rattle.diagnose_cli.specs.Run.{SaysStop}
 use Rattle.diagnose_cli.specs.Sessions.{status_of_session}
 use Rattle.endings.specs.Transcripts.{Ending, OrMemory, Transcript, UnlessMemory, once}
-use Rattle.diagnose_cli.proofs.Limits.{ends_within}
+use Rattle.diagnose_cli.proofs.Limits.{ends_weaker, ends_within}
 use Rattle.telling.specs.Telling.{RisesExactlyIf}
 use Rattle.telling.proofs.Failing.{fails_alike}
 use Rattle.telling.proofs.Taking.{nothing_taken}
@@ -79,19 +80,26 @@ pub stops_empty : (may : Ending → Type 0) (book : List BookEntry) (e : Ending)
 stops_empty may book (Ok told) none h = record { comes = h; empty = tt }
 stops_empty may book (Err stop) none h = record { comes = h; empty = none }
 
-pub due_for : (l : Loads) (words : List (List ℕ)) (c : Command) (book : List BookEntry) (e : Ending) → command_of words ≡ Some c → MayAnswer l words c book e → Due l words book e
-due_for l words c book e called h = subst (λ (o : Option Command). MatchOption o (e ≡ Err Usage) (λ d. MayAnswer l words d book e)) (sym called) h
+pub due_for : (l : Loads) (words : List (List ℕ)) (t : Task Transcript) (book : List BookEntry) (e : Ending) → command_of words ≡ Calls t → MayAnswer l words t book e → Due l words book e
+due_for l words t book e called h = subst (λ (k : Called). MatchCalled k (e ≡ Err Usage) (λ s. MayAnswer l words s book e)) (sym called) h
 
-pub not_begun : (words : List (List ℕ)) (book : List BookEntry) → book ≡ [] → HasNotBegun words book
-not_begun words book none steps budget is = none
+pub begun_for : (words : List (List ℕ)) (k : Called) (book : List BookEntry) → command_of words ≡ k → IfCalled k (λ t. t.lost book) → HasNotBegun words book
+begun_for words k book called lost = subst (λ (j : Called). IfCalled j (λ t. t.lost book)) (sym called) lost
+
+pub left_for : (held : List ℕ → Option (List ℕ)) (words : List (List ℕ)) (k : Called) (book : List BookEntry) → command_of words ≡ k → IfCalled k (LeavesOver held words book) → LeftBy held words book
+left_for held words k book called left = subst (λ (j : Called). IfCalled j (LeavesOver held words book)) (sym called) left
 
 -- the command reads its files, and speaks over them, or stops at one of them
-module _ (l : Loads) (words : List (List ℕ)) (c : Command) (book : List BookEntry) (called : command_of words ≡ Some c) where
-  pub files_speak : (texts : List (List ℕ)) → AreBytes l.held words 1 (files_of c) [] texts → (lost : Type 0) → (lost → HasNotBegun words book) → (before now : Output) (rose : Type 0) (status : ℕ)
-      → Speaks (StopsEmpty (Closes c words book texts) book) lost before now rose status → Speaks (StopsEmpty (Due l words book) book) (HasNotBegun words book) before now rose status
-  files_speak texts read lost begun before now rose status speaks =
-      speaks_weaker (StopsEmpty (Closes c words book texts) book) (StopsEmpty (Due l words book) book)
-      (λ e h. record { comes = due_for l words c book e called (all_read l words (Closes c words book) 1 (files_of c) [] texts e read h.comes); empty = h.empty }) lost (HasNotBegun words book) begun before now rose status speaks
+module _ (l : Loads) (words : List (List ℕ)) (t : Task Transcript) (book : List BookEntry) (called : command_of words ≡ Calls t) where
+  pub files_speak : (texts : List (List ℕ)) → AreBytes l.held words 1 t.files [] texts → (may : Ending → Type 0) → ((e : Ending) → may e → Closes t words book texts e) → (lost : Type 0) → (lost → t.lost book) → (before now : Output) (rose : Type 0) (status : ℕ)
+      → Speaks (StopsEmpty may book) lost before now rose status → Speaks (StopsEmpty (Due l words book) book) (HasNotBegun words book) before now rose status
+  files_speak texts read may closes lost begun before now rose status speaks =
+      speaks_weaker (StopsEmpty may book) (StopsEmpty (Due l words book) book)
+      (λ e h. record { comes = due_for l words t book e called (all_read l words (Closes t words book) 1 t.files [] texts e read (closes e h.comes)); empty = h.empty }) lost (HasNotBegun words book) (λ q. begun_for words (Calls t) book called (begun q)) before now rose status speaks
 
-  pub files_stop : (stop : Stop) → (stop ≢ NoMemory → StopsAmong l words 1 (files_of c) [] stop) → UnlessMemory {T = Kind × List ℕ} (Err stop) (Due l words book (once (Err stop)))
-  files_stop stop h never = due_for l words c book (Err stop) called (stops_among l words (Closes c words book) 1 (files_of c) [] stop (h (λ is. never (ap (λ s. Err s) is))))
+  pub files_stop : (stop : Stop) → (stop ≢ NoMemory → StopsAmong l words 1 t.files [] stop) → UnlessMemory {T = Kind × List ℕ} (Err stop) (Due l words book (once (Err stop)))
+  files_stop stop h never = due_for l words t book (Err stop) called (stops_among l words (Closes t words book) 1 t.files [] stop (h (λ is. never (ap (λ s. Err s) is))))
+
+-- several replies to a question of this size, by a budget that isn't said to be enough
+pub tells_many : (t : Task Transcript) (words : List (List ℕ)) (book : List BookEntry) (texts : List (List ℕ)) (size : ℕ) (P : Transcript → Type 0) → ((told : Transcript) → P told → t.says words book texts told) → (t.enough words texts → ⊥) → (e : Ending) → EndsBySize size P e → EndsBySize size (Says t words book texts) e
+tells_many t words book texts size P says never e h = ends_weaker size P (Says t words book texts) e (λ told p. record { says = says told p; decided = λ enough. absurd (never enough) }) h

@@ -20,20 +20,19 @@ use Rattle.prop_core.specs.Clauses.{Clause}
 use Rattle.replay.specs.Explanation.{IsAbsent}
 use Rattle.report.specs.Replies.{text_of_found}
 use Rattle.run_decode.specs.QuestionAxioms.{question_axioms}
-use Rattle.diagnose_cli.specs.declared.command.Command.TheVariants.{One}
-use Rattle.diagnose_cli.specs.declared.command.Single.TheVariants.{Check, Ask}
 use Rattle.endings.specs.declared.ending.Kind.{Kind}
 use Rattle.endings.specs.declared.ending.Kind.TheVariants.{Done, Rejected, Absent as NoneThere, Undecided as LeftOpen, Many as TooMany, Nothing, Ambiguous}
 use Rattle.endings.specs.Endings.{status_of_kind}
 use Rattle.inquiries.specs.Diagnosed.{IsDiagnosed}
-use Rattle.diagnose_cli.specs.Tasks.{single_task}
-use Rattle.diagnose_cli.specs.Questions.{diagnose_question, request_of, AnswersTo, NamedQuestion, RepliesTo, Request, Requests}
+use Rattle.diagnose_cli.specs.Tasks.{one, told_once}
+use Rattle.diagnose_cli.specs.Commands.{asking, check}
+use Rattle.diagnose_cli.proofs.Called.{called_so}
+use Rattle.diagnose_cli.specs.Questions.{diagnose_question, AnswersTo}
 use Rattle.diagnose_cli.specs.Replies.{kind_of_found, reply_of_checked, AnswersQuestion, IsEnough, SaysFound}
 use Rattle.diagnose_cli.specs.Outcomes.{Outcome, ShowsReply}
 use Rattle.diagnose_cli.specs.Rows.{CallsDiagnose, CallsWith, TellsLeast, TellsMany, TellsUndecided}
 use Rattle.diagnose_cli.specs.Run.{Ends}
-use Rattle.diagnose_cli.proofs.Requested.{asked_for}
-use Rattle.diagnose_cli.proofs.Answered.{AreHeld, IsStopStatus, as_said, between, reply_over, said_over, same_text}
+use Rattle.diagnose_cli.proofs.Answered.{AreHeld, IsStopStatus, between, reply_over, reply_told, same_text, told_over}
 
 -- ---- a proof that is verified
 
@@ -42,7 +41,7 @@ yes : (axioms : List Clause) (steps : List ProofStep) (checked : Checked) → ch
 yes axioms steps Verified is status = verified_refutes axioms steps is
 yes axioms steps (Rejected line kind) is status = absurd (omega arith)
 
-of_checked : (o : Outcome) (formula : List ℕ) (texts : List (List ℕ)) → o.loads.held (word_at o.words 1) ≡ Some formula → o.status ≡ 0 → AreHeld o.loads.held o.words 1 texts → ShowsReply o ((single_task Check).says o.words o.book texts)
+of_checked : (o : Outcome) (formula : List ℕ) (texts : List (List ℕ)) → o.loads.held (word_at o.words 1) ≡ Some formula → o.status ≡ 0 → AreHeld o.loads.held o.words 1 texts → ShowsReply o ((check.task tt).says o.words o.book texts)
     → IsUnsatisfiable (formula_of formula).clauses
 of_checked o formula [] there zero held tells = absurd tells.says
 of_checked o formula (text ∷ []) there zero held tells = absurd tells.says
@@ -52,18 +51,10 @@ of_checked o formula (text ∷ proof ∷ []) there zero held tells =
     subst (λ (f : List ℕ). IsUnsatisfiable (formula_of f).clauses) (sym (same_text (o.loads.held (word_at o.words 1)) formula text there held.0)) (yes (formula_of text).clauses (proof_of proof) checked refl status)
 of_checked o formula (text ∷ proof ∷ other ∷ texts) there zero held tells = absurd tells.says
 
-pub refuted : (o : Outcome) → Ends o → (formula : List ℕ) → CallsWith o (One Check) (formula ∷ []) → o.status ≡ 0 → IsUnsatisfiable (formula_of formula).clauses
+pub refuted : (o : Outcome) → Ends o → (formula : List ℕ) → CallsWith o (one check) tt (formula ∷ []) → o.status ≡ 0 → IsUnsatisfiable (formula_of formula).clauses
 refuted o ends formula asks zero =
-    let over = said_over o Check ends asks.command (λ stop. omega (arith, zero, stop.low)) in
-    of_checked o formula over.texts asks.told.0 zero over.held (as_said o Check over.texts over.tells)
-
--- ---- a question about a log
-
--- what is answered to a question that the words ask
-pub answer_told : (o : Outcome) (steps : ℕ) (question : NamedQuestion) (word : question.Word) (text alarms : List ℕ) → Ends o → request_of o.words ≡ Requests question word → CallsWith o (One (Ask steps)) (text ∷ alarms ∷ []) → (IsStopStatus o.status → ⊥)
-    → ShowsReply o (AnswersTo question word (network_of text) (log_of alarms) steps o.book)
-answer_told o steps question word text alarms ends request asks answers =
-    subst (λ (r : Request). ShowsReply o (RepliesTo r steps o.book (text ∷ alarms ∷ []))) request (reply_over o (Ask steps) (text ∷ alarms ∷ []) ends asks refl answers)
+    let over = told_over o (told_once (check.task tt)) ends (called_so (one check) o.words refl tt asks.called) (λ stop. omega (arith, zero, stop.low)) in
+    of_checked o formula over.texts asks.told.0 zero over.held (reply_told o (check.task tt) over (λ stop. omega (arith, zero, stop.low)))
 
 -- ---- what is found of it
 
@@ -83,8 +74,11 @@ of_reply o net alarms steps budget tells =
       put = subst (λ (r : Kind × List ℕ). Took o.before o.now (r.1 ∷ [])) said.is tells.put;
     }
 
+answer_told : (o : Outcome) (steps budget : ℕ) (text alarms : List ℕ) → Ends o → CallsDiagnose o steps budget text alarms → (IsStopStatus o.status → ⊥) → ShowsReply o (AnswersTo diagnose_question budget (network_of text) (log_of alarms) steps o.book)
+answer_told o steps budget text alarms ends asks answers = reply_over o (asking diagnose_question) refl (steps, budget) (text ∷ alarms ∷ []) ends asks refl answers
+
 found_told : (o : Outcome) (steps budget : ℕ) (text alarms : List ℕ) → Ends o → CallsDiagnose o steps budget text alarms → (IsStopStatus o.status → ⊥) → TellsFound o (network_of text) (log_of alarms) steps budget
-found_told o steps budget text alarms ends asks answers = of_reply o (network_of text) (log_of alarms) steps budget (answer_told o steps diagnose_question budget text alarms ends (asked_for diagnose_question o.words (λ last. refl) budget asks.words) asks.calls answers)
+found_told o steps budget text alarms ends asks answers = of_reply o (network_of text) (log_of alarms) steps budget (answer_told o steps budget text alarms ends asks answers)
 
 -- ---- by the status
 
@@ -128,7 +122,7 @@ undecided_of o net alarms steps budget (Undecided lo best) is holds put =
     }
 
 -- the kind that has this status
-open_kind : (kind : Kind) → 11 ≡ status_of_kind kind → kind ≡ LeftOpen
+pub open_kind : (kind : Kind) → 11 ≡ status_of_kind kind → kind ≡ LeftOpen
 open_kind Done is = absurd (omega arith)
 open_kind Rejected is = absurd (omega arith)
 open_kind NoneThere is = absurd (omega arith)
@@ -165,6 +159,5 @@ module _ (o : Outcome) (ends : Ends o) where
   -- a budget that is large enough decides
   pub diagnosed : (steps budget : ℕ) (text alarms : List ℕ) → CallsDiagnose o steps budget text alarms → IsEnough budget (network_of text) (log_of alarms) steps → o.status ≡ 11 → ⊥
   diagnosed steps budget text alarms asks enough is =
-      let request = asked_for diagnose_question o.words (λ last. refl) budget asks.words in
-      let tells = answer_told o steps diagnose_question budget text alarms ends request asks.calls (λ stop. between o.status _ is (omega arith) (omega arith) stop) in
+      let tells = answer_told o steps budget text alarms ends asks (λ stop. between o.status _ is (omega arith) (omega arith) stop) in
       tells.says.decided enough (left_open o tells is)

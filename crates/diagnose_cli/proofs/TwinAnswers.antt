@@ -23,16 +23,15 @@ use Rattle.twin_test.specs.Tested.{IsTested, LeavesTwins, run_of_pieces, unnamed
 use Rattle.twin_test.specs.Twins.{AreAligned, twin_size}
 use Rattle.answers.specs.declared.twin.Twin.{Twin as TwinAnswer}
 use Rattle.answers.specs.declared.twin.Twin.TheVariants.{Ambiguous, Clear, Undecided}
-use Rattle.diagnose_cli.specs.declared.command.Command.TheVariants.{One}
-use Rattle.diagnose_cli.specs.declared.command.Single.TheVariants.{Twin}
 use Rattle.endings.specs.declared.ending.Kind.{Kind}
 use Rattle.endings.specs.declared.stop.Stop.TheVariants.{NoFault}
 use Rattle.endings.specs.Transcripts.{Ending, IsOne}
-use Rattle.diagnose_cli.specs.Due.{Closes, EndsBySize, above_limit, stop_by}
+use Rattle.diagnose_cli.specs.Due.{Closes, EndsBySize, Says, above_limit, stop_by}
 use Rattle.diagnose_cli.specs.FilesRead.{IsModelRead}
 use Rattle.diagnose_cli.specs.Rows.{Leaves}
 use Rattle.diagnose_cli.specs.TwinReplies.{LeavesOfWord, SaysOfWord, SaysTwin, TwinRunsReadBack}
-use Rattle.diagnose_cli.specs.Tasks.{MayReply}
+use Rattle.diagnose_cli.specs.Tasks.{Reply, Task, told_once}
+use Rattle.diagnose_cli.specs.Commands.{twin}
 use Rattle.model_text.specs.ModelFaults.{network_of}
 use Rattle.diagnose_cli.proofs.Limits.{stop_weaker}
 use Rattle.diagnose_cli.proofs.ReadOver.{over_model}
@@ -75,21 +74,24 @@ none_of None never = refl
 none_of (Some n) never = absurd (never n refl)
 
 module _ (n d budget : ℕ) (words : List (List ℕ)) (book : List BookEntry) where
+  abbrev asked : Task Reply
+  asked = twin.task (record { steps = n; after = d; budget = budget })
+
   -- by the fault event and by the size
   abbrev Ends : Net → Ending → Type 0
   Ends net e = MatchOption (stop_by (is_none (fault_event_of net (word_at words 2))) (above_limit (twin_size net n d))) (IsOkAnd e (IsOne (SaysOfWord net (word_at words 2) n d budget book))) (λ stop. e ≡ Err stop)
 
-  over_text : (texts : List (List ℕ)) (net : Net) (e : Ending) → IsModelRead texts net → Ends net e → Closes (One (Twin n d budget)) words book texts e
-  over_text texts net e read h = over_model (λ ts. Closes (One (Twin n d budget)) words book ts e) texts (λ m. Ends m e) (λ text well ends. stop_weaker _ (SaysOfWord (network_of text) (word_at words 2) n d budget book) (MayReply (Twin n d budget) words book (text ∷ [])) e (λ reply says. record { says = says; decided = λ enough. absurd enough }) ends) net read h
+  over_text : (texts : List (List ℕ)) (net : Net) (e : Ending) → IsModelRead texts net → Ends net e → Closes (told_once asked) words book texts e
+  over_text texts net e read h = over_model (λ ts. Closes (told_once asked) words book ts e) texts (λ m. Ends m e) (λ text well ends. stop_weaker _ (IsOne (SaysOfWord (network_of text) (word_at words 2) n d budget book)) (Says (told_once asked) words book (text ∷ [])) e (λ told says. record { says = says; decided = λ enough. absurd enough }) ends) net read h
 
-  pub lacks : (texts : List (List ℕ)) (net : Net) → IsModelRead texts net → None ≡ fault_event_of net (word_at words 2) → Closes (One (Twin n d budget)) words book texts (Err NoFault)
+  pub lacks : (texts : List (List ℕ)) (net : Net) → IsModelRead texts net → None ≡ fault_event_of net (word_at words 2) → Closes (told_once asked) words book texts (Err NoFault)
   lacks texts net read is =
       let e : Ending = Err NoFault in
       over_text texts net e read (subst (λ (o : Option ℕ). MatchOption (stop_by (is_none o) (above_limit (twin_size net n d))) (IsOkAnd e (IsOne (SaysOfWord net (word_at words 2) n d budget book))) (λ stop. e ≡ Err stop)) is refl)
 
   module _ (texts : List (List ℕ)) (net : Net) (read : IsModelRead texts net) (fault : ℕ) (named : Some fault ≡ fault_event_of net (word_at words 2)) where
     -- with a fault event, by the size alone
-    pub ends_about : (e : Ending) → EndsBySize (twin_size net n d) (IsOne (SaysOfWord net (word_at words 2) n d budget book)) e → Closes (One (Twin n d budget)) words book texts e
+    pub ends_about : (e : Ending) → EndsBySize (twin_size net n d) (IsOne (SaysOfWord net (word_at words 2) n d budget book)) e → Closes (told_once asked) words book texts e
     ends_about e h =
         over_text texts net e read
         (subst (λ (o : Option ℕ). MatchOption (stop_by (is_none o) (above_limit (twin_size net n d))) (IsOkAnd e (IsOne (SaysOfWord net (word_at words 2) n d budget book))) (λ stop. e ≡ Err stop)) named h)
@@ -97,7 +99,7 @@ module _ (n d budget : ℕ) (words : List (List ℕ)) (book : List BookEntry) wh
     pub of_word : (reply : Kind × List ℕ) → SaysTwin net fault n d budget book reply → SaysOfWord net (word_at words 2) n d budget book reply
     of_word reply says = subst (λ (o : Option ℕ). IsSomeAnd o (λ f. SaysTwin net f n d budget book reply)) named says
 
-    pub fault_left : LeavesTwins net fault n d budget book → Leaves (One (Twin n d budget)) words texts book
+    pub fault_left : LeavesTwins net fault n d budget book → Leaves (told_once asked) words texts book
     fault_left left =
-        over_model (λ ts. Leaves (One (Twin n d budget)) words ts book) texts (λ m. LeavesOfWord m (word_at words 2) n d budget book) (λ text well h same. inr h) net read
+        over_model (λ ts. Leaves (told_once asked) words ts book) texts (λ m. LeavesOfWord m (word_at words 2) n d budget book) (λ text well h same. inr h) net read
         (subst (λ (o : Option ℕ). MatchOption o (book ≡ []) (λ f. LeavesTwins net f n d budget book)) named left)

@@ -13,10 +13,10 @@ use Rattle.twin_test.specs.Tested.{IsTested}
 use Rattle.twin_test.specs.TwinCodes.{twin_variables}
 use Rattle.answers.specs.declared.twin.Twin.{Twin as TwinAnswer}
 use Rattle.answers.specs.declared.twin.Twin.TheVariants.{Ambiguous, Clear, Undecided}
-use Rattle.diagnose_cli.specs.declared.command.Command.TheVariants.{One}
-use Rattle.diagnose_cli.specs.declared.command.Single.TheVariants.{Twin}
 use Rattle.endings.specs.declared.ending.Kind.{Kind}
 use Rattle.endings.specs.Endings.{status_of_kind}
+use Rattle.diagnose_cli.specs.Commands.{twin}
+use Rattle.diagnose_cli.specs.Tasks.{one}
 use Rattle.diagnose_cli.specs.Outcomes.{Outcome, ShowsReply}
 use Rattle.diagnose_cli.specs.Rows.{CallsWith}
 use Rattle.diagnose_cli.specs.Run.{Ends}
@@ -60,9 +60,9 @@ of_reply o net n d budget tells =
     }
 
 -- over the text that is told
-told : (o : Outcome) (n d budget : ℕ) (text : List ℕ) → Ends o → CallsWith o (One (Twin n d budget)) (text ∷ []) → (IsStopStatus o.status → ⊥) → TellsTested o (network_of text) n d budget
+told : (o : Outcome) (n d budget : ℕ) (text : List ℕ) → Ends o → CallsWith o (one twin) (record { steps = n; after = d; budget = budget }) (text ∷ []) → (IsStopStatus o.status → ⊥) → TellsTested o (network_of text) n d budget
 told o n d budget text ends asks answers =
-    of_reply o (network_of text) n d budget (reply_over o (Twin n d budget) (text ∷ []) ends asks refl answers)
+    of_reply o (network_of text) n d budget (reply_over o twin refl (record { steps = n; after = d; budget = budget }) (text ∷ []) ends asks refl answers)
 
 -- ---- by the status
 
@@ -101,22 +101,22 @@ small_of net fault n d budget book Undecided is tested enough =
     omega (arith, small, enough)
 
 module _ (o : Outcome) (ends : Ends o) where
-  pub alike : (n d budget : ℕ) (text : List ℕ) → CallsWith o (One (Twin n d budget)) (text ∷ []) → o.status ≡ 17 → TellsTwins o (network_of text) n d
+  pub alike : (n d budget : ℕ) (text : List ℕ) → CallsWith o (one twin) (record { steps = n; after = d; budget = budget }) (text ∷ []) → o.status ≡ 17 → TellsTwins o (network_of text) n d
   alike n d budget text asks is =
       let tells = told o n d budget text ends asks (above o.status 17 is (omega arith)) in
       alike_of o (network_of text) n d budget tells tells.answer (sym is ∙ tells.shown) tells.tested tells.put
 
-  pub clear : (n d budget : ℕ) (text : List ℕ) → CallsWith o (One (Twin n d budget)) (text ∷ []) → o.status ≡ 0 → TellsNoTwins o (network_of text) n d
+  pub clear : (n d budget : ℕ) (text : List ℕ) → CallsWith o (one twin) (record { steps = n; after = d; budget = budget }) (text ∷ []) → o.status ≡ 0 → TellsNoTwins o (network_of text) n d
   clear n d budget text asks is =
       let tells = told o n d budget text ends asks (λ stop. omega (arith, is, stop.low)) in
       clear_of o (network_of text) n d budget tells tells.answer (sym is ∙ tells.shown) tells.tested tells.put
 
-  pub untested : (n d budget : ℕ) (text : List ℕ) → CallsWith o (One (Twin n d budget)) (text ∷ []) → o.status ≡ 11 → TellsUntested o (network_of text) n d budget
+  pub untested : (n d budget : ℕ) (text : List ℕ) → CallsWith o (one twin) (record { steps = n; after = d; budget = budget }) (text ∷ []) → o.status ≡ 11 → TellsUntested o (network_of text) n d budget
   untested n d budget text asks is =
       let tells = told o n d budget text ends asks (between o.status 11 is (omega arith) (omega arith)) in
       untested_of o (network_of text) n d budget tells tells.answer (sym is ∙ tells.shown) tells.tested tells.put
 
-  pub tested_by : (n d budget : ℕ) (text : List ℕ) → CallsWith o (One (Twin n d budget)) (text ∷ []) → 3 ^ twin_variables (network_of text) n d ≤ budget → o.status ≡ 11 → ⊥
+  pub tested_by : (n d budget : ℕ) (text : List ℕ) → CallsWith o (one twin) (record { steps = n; after = d; budget = budget }) (text ∷ []) → 3 ^ twin_variables (network_of text) n d ≤ budget → o.status ≡ 11 → ⊥
   tested_by n d budget text asks enough is =
       let tells = told o n d budget text ends asks (between o.status 11 is (omega arith) (omega arith)) in
       small_of (network_of text) tells.fault n d budget o.book tells.answer (sym is ∙ tells.shown) tells.tested enough

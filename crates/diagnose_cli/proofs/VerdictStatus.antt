@@ -17,15 +17,16 @@ use Rattle.verdict_telling.specs.Deciding.{IsSmallFor, leaves_open}
 use Rattle.verdict_telling.specs.Replied.{is_undecided}
 use Rattle.verdict_telling.specs.Whole.{told_of}
 use Rattle.verdict_telling.specs.declared.whole.Told.TheVariants.{Judged}
-use Rattle.diagnose_cli.specs.declared.command.Command.TheVariants.{Verdicts}
 use Rattle.endings.specs.Endings.{HasStatus, status_of_end, status_of_kind, ending_texts}
+use Rattle.diagnose_cli.specs.Commands.{verdicts}
+use Rattle.diagnose_cli.proofs.Called.{called_so}
 use Rattle.diagnose_cli.specs.Outcomes.{Outcome, IsPut, IsUnbroken}
 use Rattle.diagnose_cli.specs.Rows.{CallsWith, ReadsFiles}
 use Rattle.diagnose_cli.specs.Run.{Ends}
 use Rattle.endings.specs.Transcripts.{End, Ending, said, cut, broken}
 use Rattle.diagnose_cli.specs.VerdictReplies.{EndsVerdicts, MayTell, kind_of_told}
 use Rattle.diagnose_cli.specs.VerdictRows.{IsAnswerStatus, TellsInAll}
-use Rattle.diagnose_cli.proofs.Answered.{IsStopStatus, said_in_all, says_over, told_over}
+use Rattle.diagnose_cli.proofs.Answered.{IsStopStatus, only_said, said_in_all, says_over, told_over}
 
 -- ---- all that is told
 
@@ -39,9 +40,11 @@ told_in_all : (o : Outcome) (net : Net) (alarms : Log) (n budget : ℕ) (e : End
 told_in_all o net alarms n budget (Ok told) is_put says shown put = ended o net alarms n budget told.texts told.end is_put says shown put
 told_in_all o net alarms n budget (Err stop) is_put says shown put = absurd says
 
-pub verdicts_row : (o : Outcome) (steps budget : ℕ) (text alarms : List ℕ) → Ends o → ReadsFiles o (Verdicts steps budget) (text ∷ alarms ∷ []) → IsUnbroken o.status → TellsInAll o (network_of text) (log_of alarms) steps budget
+pub verdicts_row : (o : Outcome) (steps budget : ℕ) (text alarms : List ℕ) → Ends o → ReadsFiles o verdicts (record { steps = steps; budget = budget }) (text ∷ alarms ∷ []) → IsUnbroken o.status → TellsInAll o (network_of text) (log_of alarms) steps budget
 verdicts_row o steps budget text alarms ends reads unbroken =
-    told_in_all o (network_of text) (log_of alarms) steps budget ends.ending unbroken.put (said_in_all o (Verdicts steps budget) (text ∷ alarms ∷ []) ends reads unbroken.loaded unbroken.put.memory) ends.shown ends.put
+    let t = verdicts.task (record { steps = steps; budget = budget }) in
+    let told = said_in_all o t (text ∷ alarms ∷ []) ends (called_so verdicts o.words refl (record { steps = steps; budget = budget }) reads.called) reads.files reads.small unbroken.loaded unbroken.put.memory in
+    told_in_all o (network_of text) (log_of alarms) steps budget ends.ending unbroken.put (only_said t o.words o.book (text ∷ alarms ∷ []) ends.ending told) ends.shown ends.put
 
 -- ---- by the status, whatever is told of the files
 
@@ -85,11 +88,12 @@ module _ (net : Net) (alarms : Log) (n budget : ℕ) (book : List BookEntry) (ve
   many_of (Many best) is holds = holds.answered.found.many
   many_of (Undecided lo best) is holds = absurd (omega (arith, is))
 
-module _ (o : Outcome) (ends : Ends o) (steps budget : ℕ) (text alarms : List ℕ) (asks : CallsWith o (Verdicts steps budget) (text ∷ alarms ∷ [])) where
+module _ (o : Outcome) (ends : Ends o) (steps budget : ℕ) (text alarms : List ℕ) (asks : CallsWith o verdicts (record { steps = steps; budget = budget }) (text ∷ alarms ∷ [])) where
   pub verdicts_told : IsAnswerStatus o.status → TellsInAll o (network_of text) (log_of alarms) steps budget
   verdicts_told answer =
-      let over = told_over o (Verdicts steps budget) ends asks.command (no_stop o.status answer) in
-      ended o (network_of text) (log_of alarms) steps budget over.told.texts over.told.end (is_put o.status answer) (says_over o (Verdicts steps budget) (text ∷ alarms ∷ []) asks refl over) over.shown over.put
+      let t = verdicts.task (record { steps = steps; budget = budget }) in
+      let over = told_over o t ends (called_so verdicts o.words refl (record { steps = steps; budget = budget }) asks.called) (no_stop o.status answer) in
+      ended o (network_of text) (log_of alarms) steps budget over.told.texts over.told.end (is_put o.status answer) (says_over o t (text ∷ alarms ∷ []) asks.told refl over).says over.shown over.put
 
   pub none_explains : o.status ≡ 10 → IsAbsent (network_of text) (log_of alarms) steps
   none_explains is =

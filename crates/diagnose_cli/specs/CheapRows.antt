@@ -13,8 +13,8 @@ use Rattle.proof_ledger.specs.Fresh.{AreFresh}
 use Rattle.replay.specs.Explanation.{IsAbsent}
 use Rattle.replay.specs.declared.run.RunStep.{RunStep}
 use Rattle.report.specs.Replies.{text_of_cheap}
-use Rattle.diagnose_cli.specs.declared.command.Command.TheVariants.{One}
-use Rattle.diagnose_cli.specs.declared.command.Single.TheVariants.{Cheapest}
+use Rattle.diagnose_cli.specs.Commands.{cheapest as cheapest_command}
+use Rattle.diagnose_cli.specs.Tasks.{one}
 use Rattle.diagnose_cli.specs.Outcomes.{Outcome}
 use Rattle.diagnose_cli.specs.Rows.{CallsWith, Row}
 
@@ -50,8 +50,8 @@ pub record TellsUnpriced (o : Outcome) (q : CostAsked) (budget : ℕ) : Type 0 w
 
 -- By the status, over whatever three texts the shelf tells.
 pub record CheapRows (o : Outcome) : Type 0 where
-  pub answered : (n budget : ℕ) (text alarms prices : List ℕ) → Row o (Cheapest n budget) (text ∷ alarms ∷ prices ∷ [])
-  pub cheapest : (n budget : ℕ) (text alarms prices : List ℕ) → CallsWith o (One (Cheapest n budget)) (text ∷ alarms ∷ prices ∷ []) → o.status ≡ 0 → TellsCheapest o (cost_asked text alarms prices n)
-  pub absent : (n budget : ℕ) (text alarms prices : List ℕ) → CallsWith o (One (Cheapest n budget)) (text ∷ alarms ∷ prices ∷ []) → o.status ≡ 10 → IsAbsent (network_of text) (log_of alarms) n
-  pub dear : (n budget : ℕ) (text alarms prices : List ℕ) → CallsWith o (One (Cheapest n budget)) (text ∷ alarms ∷ prices ∷ []) → o.status ≡ 12 → TellsDear o (cost_asked text alarms prices n)
-  pub undecided : (n budget : ℕ) (text alarms prices : List ℕ) → CallsWith o (One (Cheapest n budget)) (text ∷ alarms ∷ prices ∷ []) → o.status ≡ 11 → TellsUnpriced o (cost_asked text alarms prices n) budget
+  pub answered : (n budget : ℕ) (text alarms prices : List ℕ) → Row o cheapest_command (record { steps = n; budget = budget }) (text ∷ alarms ∷ prices ∷ [])
+  pub cheapest : (n budget : ℕ) (text alarms prices : List ℕ) → CallsWith o (one cheapest_command) (record { steps = n; budget = budget }) (text ∷ alarms ∷ prices ∷ []) → o.status ≡ 0 → TellsCheapest o (cost_asked text alarms prices n)
+  pub absent : (n budget : ℕ) (text alarms prices : List ℕ) → CallsWith o (one cheapest_command) (record { steps = n; budget = budget }) (text ∷ alarms ∷ prices ∷ []) → o.status ≡ 10 → IsAbsent (network_of text) (log_of alarms) n
+  pub dear : (n budget : ℕ) (text alarms prices : List ℕ) → CallsWith o (one cheapest_command) (record { steps = n; budget = budget }) (text ∷ alarms ∷ prices ∷ []) → o.status ≡ 12 → TellsDear o (cost_asked text alarms prices n)
+  pub undecided : (n budget : ℕ) (text alarms prices : List ℕ) → CallsWith o (one cheapest_command) (record { steps = n; budget = budget }) (text ∷ alarms ∷ prices ∷ []) → o.status ≡ 11 → TellsUnpriced o (cost_asked text alarms prices n) budget

@@ -2,13 +2,13 @@
 use Rattle.std.specs.Prelude.{◌≡◌, ℕ, ◌+◌, List, [], ◌∷◌, ◌++◌, length, nat_lt, if◌then◌else◌, Option, Some, None, IfSome, option_and_then}
 use Rattle.des_base.specs.Outside.{Took}
 use Rattle.des_base.specs.CommandWords.{word_at}
-use Rattle.diagnose_cli.specs.declared.command.Command.{Command}
 use Rattle.endings.specs.declared.stop.Stop.{Stop}
 use Rattle.endings.specs.declared.stop.Stop.TheVariants.{Usage, Faulty, Long}
 use Rattle.endings.specs.declared.stop.FaultyText.{FaultyText}
 use Rattle.endings.specs.Endings.{status_of_stop, texts_of_stop}
 use Rattle.endings.specs.Texts.{FileKind, limit_of, fault_of_text}
-use Rattle.diagnose_cli.specs.Commands.{files_of, command_of}
+use Rattle.diagnose_cli.specs.Commands.{command_of}
+use Rattle.diagnose_cli.specs.Tasks.{Called, Calls, NoCommand}
 use Rattle.diagnose_cli.specs.Due.{halts}
 use Rattle.diagnose_cli.specs.Outcomes.{Outcome}
 
@@ -27,9 +27,9 @@ first_stop held words i (kind ∷ kinds) files after =
     (held (word_at words i))
 
 -- where the words stop: at once if they call no command
-abbrev pub stop_of_command : (List ℕ → Option (List ℕ)) → List (List ℕ) → Option Command → Option Stop
-stop_of_command held words None = Some Usage
-stop_of_command held words (Some c) = first_stop held words 1 (files_of c) [] (halts c words)
+abbrev pub stop_of_command : (List ℕ → Option (List ℕ)) → List (List ℕ) → Called → Option Stop
+stop_of_command held words NoCommand = Some Usage
+stop_of_command held words (Calls t) = first_stop held words 1 t.files [] (halts t words)
 
 -- the words and the files give the one status and the one text of a stop
 abbrev pub StopRow : Outcome → Type 0

@@ -1,12 +1,8 @@
 -- The questions about a model and a log: their names, their last words, and what a reply to each says.
-use Rattle.std.specs.Prelude.{◌≡◌, ◌≢◌, ℕ, ⊤, List, [], ◌∷◌, codes, Bool, true, false, cond, bytes_eq, Option, Some, None, IsSomeAnd}
-use Rattle.des_base.specs.CommandWords.{word_at}
+use Rattle.std.specs.Prelude.{◌≢◌, ℕ, ⊤, List, [], ◌∷◌, codes, Option, Some, None, IsSomeAnd}
 use Rattle.des_base.specs.Numbers.{number_up_to}
 use Rattle.des_net.specs.Network.{Net}
-use Rattle.inquiries.specs.Begun.{LeavesQuestion, MayLearn}
-use Rattle.log_csv.specs.LogText.{log_of}
 use Rattle.log_order.specs.Log.{Log}
-use Rattle.model_text.specs.ModelFaults.{network_of}
 use Rattle.proof_ledger.specs.Book.{BookEntry}
 use Rattle.endings.specs.declared.ending.Kind.{Kind}
 use Rattle.endings.specs.declared.ending.Kind.TheVariants.{Undecided}
@@ -37,47 +33,6 @@ proof_question = record { name = codes "proof"; Word = ℕ; spelled = λ last. n
 abbrev pub named_questions : List NamedQuestion
 named_questions = diagnose_question ∷ cnf_question ∷ proof_question ∷ []
 
--- ---- what words ask
-
--- what five words ask: nothing, or a question with what the last word spells
-pub data Request : Type 1 where
-  NoRequest : Request
-  Requests : (question : NamedQuestion) → question.Word → Request
-
--- a question, where its last word spells something
-abbrev pub request_by : (question : NamedQuestion) → Option question.Word → Request
-request_by question None = NoRequest
-request_by question (Some word) = Requests question word
-
--- the question of this name among these, by the last word
-abbrev pub request_among : List NamedQuestion → List ℕ → List ℕ → Request
-request_among [] name last = NoRequest
-request_among (question ∷ others) name last = cond (bytes_eq name question.name) (request_by question (question.spelled last)) (request_among others name last)
-
--- what the words ask, of which the first is the name
-abbrev pub request_of : List (List ℕ) → Request
-request_of words = request_among named_questions (word_at words 0) (word_at words 4)
-
--- something is asked
-abbrev pub is_request : Request → Bool
-is_request NoRequest = false
-is_request (Requests question word) = true
-
--- P of the question, if one is asked
-abbrev pub IfRequest : Request → ((question : NamedQuestion) → question.Word → Type 0) → Type 0
-IfRequest NoRequest P = ⊤
-IfRequest (Requests question word) P = P question word
-
--- a question is asked, and P of it
-abbrev pub IsRequestAnd : Request → ((question : NamedQuestion) → question.Word → Type 0) → Type 0
-IsRequestAnd NoRequest P = ⊥
-IsRequestAnd (Requests question word) P = P question word
-
--- the words ask this question, and the last one spells this
-pub record AreWordsOf (question : NamedQuestion) (word : question.Word) (words : List (List ℕ)) : Type 0 where
-  pub name : word_at words 0 ≡ question.name
-  pub last : question.spelled (word_at words 4) ≡ Some word
-
 -- ---- what is answered
 
 -- the question has a budget, and this is large enough
@@ -89,13 +44,7 @@ pub record AnswersTo (question : NamedQuestion) (word : question.Word) (net : Ne
   pub says : question.says word net log n book reply
   pub decided : HasEnough question word net log n → reply.0 ≢ Undecided
 
--- so does a reply to a request, over the bytes of a model and of a log
-abbrev pub RepliesTo : Request → ℕ → List BookEntry → List (List ℕ) → (Kind × List ℕ) → Type 0
-RepliesTo asked n book (text ∷ alarms ∷ []) reply = IsRequestAnd asked (λ question word. AnswersTo question word (network_of text) (log_of alarms) n book reply)
-RepliesTo asked n book _ reply = ⊥
-
--- ---- what is left in the book
-
--- nothing, or a book whose axioms are those of a question about network and log, and no more learnt than its budget says
-abbrev pub LeavesRequest : Request → Net → Log → ℕ → List BookEntry → Type 0
-LeavesRequest request net log n book = IfRequest request (λ question word. LeavesQuestion net log n (MayLearn (question.budget word)) book)
+-- P of each question that has a name
+abbrev pub ForEach : List NamedQuestion → (NamedQuestion → Type 0) → Type 0
+ForEach [] P = ⊤
+ForEach (question ∷ others) P = P question × ForEach others P

@@ -22,16 +22,15 @@ use Rattle.prop_core.specs.VariableNames.{Meaning}
 use Rattle.replay.specs.Explanation.{NeedsFaults, IsLeast, IsAbsent, IsMany}
 use Rattle.replay.specs.QuestionSize.{variable_bound}
 use Rattle.report.specs.Replies.{text_of_found}
-use Rattle.diagnose_cli.specs.declared.command.Command.{Command}
-use Rattle.diagnose_cli.specs.declared.command.Command.TheVariants.{One, Session}
-use Rattle.diagnose_cli.specs.declared.command.Single.{Single}
-use Rattle.diagnose_cli.specs.declared.command.Single.TheVariants.{Trace, Show, Replay, Check, Ask, GenerateModel, GenerateLog, Bench}
+use Rattle.endings.specs.Transcripts.{Transcript}
 use Rattle.endings.specs.Texts.{FileKind, limit_of, fault_of_text}
-use Rattle.diagnose_cli.specs.Commands.{command_of, files_of}
-use Rattle.diagnose_cli.specs.Questions.{AreWordsOf, diagnose_question}
+use Rattle.diagnose_cli.specs.declared.command.Limits.{Limits}
+use Rattle.diagnose_cli.specs.declared.generate_command.PlantText.TheVariants.{Model, Log as LogText}
+use Rattle.diagnose_cli.specs.Commands.{asking, bench, check, command_of, generate, replay, session, show, trace}
+use Rattle.diagnose_cli.specs.Questions.{ForEach, diagnose_question, named_questions}
 use Rattle.diagnose_cli.specs.Replies.{IsEnough}
 use Rattle.diagnose_cli.specs.SessionReplies.{HasReplies}
-use Rattle.diagnose_cli.specs.Tasks.{MayReply, task_of}
+use Rattle.diagnose_cli.specs.Tasks.{AreWords, IfCalled, NamedCommand, Reply, Task, one}
 use Rattle.diagnose_cli.specs.Due.{halts}
 use Rattle.diagnose_cli.specs.Outcomes.{Outcome, IsPut, IsUnbroken, ShowsReply}
 
@@ -50,61 +49,61 @@ AreRead held words i (kind ∷ kinds) files (text ∷ texts) = IsRead held (word
 AreRead held words i [] files (text ∷ texts) = ⊥
 AreRead held words i (kind ∷ kinds) files [] = ⊥
 
--- the words call the command, all its files can be read, and nothing stops it then: it lacks no fault event, and its question isn't too large
-pub record ReadsFiles (o : Outcome) (c : Command) (texts : List (List ℕ)) : Type 0 where
-  pub command : command_of o.words ≡ Some c
-  pub files : AreRead o.loads.held o.words 1 (files_of c) [] texts
-  pub small : halts c o.words texts ≡ None
+-- the words call the command and spell this, all its files can be read, and nothing stops it then: it lacks no fault event, and its question isn't too large
+pub record ReadsFiles (o : Outcome) (c : NamedCommand Transcript) (word : c.Word) (texts : List (List ℕ)) : Type 0 where
+  pub called : AreWords c word o.words
+  pub files : AreRead o.loads.held o.words 1 (c.task word).files [] texts
+  pub small : halts (c.task word) o.words texts ≡ None
 
 -- the shelf tells these bytes, from number i on
 abbrev pub AreTold : (List ℕ → Option (List ℕ)) → List (List ℕ) → ℕ → List (List ℕ) → Type 0
 AreTold held words i [] = ⊤
 AreTold held words i (text ∷ texts) = (held (word_at words i) ≡ Some text) × AreTold held words (i + 1) texts
 
--- the words call the command, and the shelf tells these bytes of its files, from the first on, whatever they are
-pub record CallsWith (o : Outcome) (c : Command) (texts : List (List ℕ)) : Type 0 where
-  pub command : command_of o.words ≡ Some c
+-- the words call the command and spell this, and the shelf tells these bytes of its files, from the first on, whatever they are
+pub record CallsWith (o : Outcome) (c : NamedCommand Transcript) (word : c.Word) (texts : List (List ℕ)) : Type 0 where
+  pub called : AreWords c word o.words
   pub told : AreTold o.loads.held o.words 1 texts
 
 -- ---- one row for all commands with one reply
 
 -- where its files can be read, status and text are those of a reply that the command may give
-abbrev pub Row : Outcome → Single → List (List ℕ) → Type 0
-Row o c texts = ReadsFiles o (One c) texts → IsUnbroken o.status → ShowsReply o (MayReply c o.words o.book texts)
+abbrev pub Row : Outcome → (c : NamedCommand Reply) → c.Word → List (List ℕ) → Type 0
+Row o c word texts = ReadsFiles o (one c) word texts → IsUnbroken o.status → ShowsReply o ((c.task word).says o.words o.book texts)
 
 -- so it is with a command that has no files, of which none can fail
-abbrev pub RowAlone : Outcome → Single → Type 0
-RowAlone o c = ReadsFiles o (One c) [] → IsPut o.status → ShowsReply o (MayReply c o.words o.book [])
+abbrev pub RowAlone : Outcome → (c : NamedCommand Reply) → c.Word → Type 0
+RowAlone o c word = ReadsFiles o (one c) word [] → IsPut o.status → ShowsReply o ((c.task word).says o.words o.book [])
 
 -- so `trace` answers, over a model text and a run text
 abbrev pub TraceRow : Outcome → Type 0
-TraceRow o = (text steps : List ℕ) → Row o Trace (text ∷ steps ∷ [])
+TraceRow o = (text steps : List ℕ) → Row o trace tt (text ∷ steps ∷ [])
 
 -- so `show` answers, over a model text
 abbrev pub ShowRow : Outcome → Type 0
-ShowRow o = (text : List ℕ) → Row o Show (text ∷ [])
+ShowRow o = (text : List ℕ) → Row o show tt (text ∷ [])
 
 -- so `replay` answers, over a model text, a log text and a run text
 abbrev pub ReplayRow : Outcome → Type 0
-ReplayRow o = (steps : ℕ) (text alarms events : List ℕ) → Row o (Replay steps) (text ∷ alarms ∷ events ∷ [])
+ReplayRow o = (steps : ℕ) (text alarms events : List ℕ) → Row o replay steps (text ∷ alarms ∷ events ∷ [])
 
 -- so `check` answers, over a formula text and a proof text; and where the status is 0, no assignment makes all clauses of the formula true
 pub record CheckRows (o : Outcome) : Type 0 where
-  pub checked : (formula proof : List ℕ) → Row o Check (formula ∷ proof ∷ [])
-  pub refuted : (formula : List ℕ) → CallsWith o (One Check) (formula ∷ []) → o.status ≡ 0 → IsUnsatisfiable (formula_of formula).clauses
+  pub checked : (formula proof : List ℕ) → Row o check tt (formula ∷ proof ∷ [])
+  pub refuted : (formula : List ℕ) → CallsWith o (one check) tt (formula ∷ []) → o.status ≡ 0 → IsUnsatisfiable (formula_of formula).clauses
 
--- so the question that the words ask is answered, over a model text and a log text
+-- so each question is answered, over a model text and a log text
 abbrev pub AskedRow : Outcome → Type 0
-AskedRow o = (steps : ℕ) (text alarms : List ℕ) → Row o (Ask steps) (text ∷ alarms ∷ [])
+AskedRow o = ForEach named_questions (λ question. (steps : ℕ) (last : question.Word) (text alarms : List ℕ) → Row o (asking question) (steps, last) (text ∷ alarms ∷ []))
 
 -- so `generate` answers, with a model or with a log; it has no files
 pub record GenerateRows (o : Outcome) : Type 0 where
-  pub model : (units start : ℕ) → RowAlone o (GenerateModel units start)
-  pub log : (units start : ℕ) → RowAlone o (GenerateLog units start)
+  pub model : (units start : ℕ) → RowAlone o generate (record { text = Model; units = units; start = start })
+  pub log : (units start : ℕ) → RowAlone o generate (record { text = LogText; units = units; start = start })
 
 -- so `bench` answers, which has no files
 abbrev pub BenchRow : Outcome → Type 0
-BenchRow o = (units start steps budget : ℕ) → RowAlone o (Bench units start steps budget)
+BenchRow o = (units start : ℕ) (limits : Limits) → RowAlone o bench (record { units = units; start = start; limits = limits })
 
 -- ---- what a session tells
 
@@ -120,7 +119,7 @@ pub record TellsSession (o : Outcome) (net : Net) (n budget : ℕ) (rows : List 
 -- where its files can be read
 abbrev pub SessionRow : Outcome → Type 0
 SessionRow o =
-    (steps budget : ℕ) (text lines : List ℕ) → ReadsFiles o (Session steps budget) (text ∷ lines ∷ []) → IsUnbroken o.status → TellsSession o (network_of text) steps budget (script_of lines)
+    (limits : Limits) (text lines : List ℕ) → ReadsFiles o session limits (text ∷ lines ∷ []) → IsUnbroken o.status → TellsSession o (network_of text) limits.steps limits.budget (script_of lines)
 
 -- ---- what each status of `diagnose` tells
 
@@ -151,10 +150,9 @@ pub record TellsUndecided (o : Outcome) (net : Net) (alarms : Log) (n budget : �
   pub known : IfSome best (λ run. IsExplanation net alarms n run × (lo < run.faults))
   pub put : Took o.before o.now (text_of_found net n (Undecided lo best) ∷ [])
 
--- the words call `diagnose` with this budget, and the shelf tells these bytes of its files
-pub record CallsDiagnose (o : Outcome) (steps budget : ℕ) (text alarms : List ℕ) : Type 0 where
-  pub words : AreWordsOf diagnose_question budget o.words
-  pub calls : CallsWith o (One (Ask steps)) (text ∷ alarms ∷ [])
+-- the words call `diagnose` with these steps and this budget, and the shelf tells these bytes of its files
+abbrev pub CallsDiagnose : Outcome → (steps budget : ℕ) → List ℕ → List ℕ → Type 0
+CallsDiagnose o steps budget text alarms = CallsWith o (one (asking diagnose_question)) (steps, budget) (text ∷ alarms ∷ [])
 
 -- By the status of `diagnose`, over whatever two texts the shelf tells. A budget of 3 to the number of variables that network, log and steps allow decides.
 pub record DiagnoseRows (o : Outcome) : Type 0 where
@@ -167,9 +165,17 @@ pub record DiagnoseRows (o : Outcome) : Type 0 where
 -- ---- what is left in the book
 
 -- Of a command that asks a question, over as many texts as it has files: nothing, or what its task says.
-abbrev pub Leaves : Command → List (List ℕ) → List (List ℕ) → List BookEntry → Type 0
-Leaves c words texts book = cond (task_of c).asks (length texts ≡ length (files_of c) → IsEmptyOr ((task_of c).leaves words texts) book) ⊤
+abbrev pub Leaves : Task Transcript → List (List ℕ) → List (List ℕ) → List BookEntry → Type 0
+Leaves t words texts book = cond t.asks (length texts ≡ length t.files → IsEmptyOr (t.leaves words texts) book) ⊤
 
--- so it is over whatever bytes the shelf tells, and whatever the status
+-- so it is over whatever bytes of its files are told
+abbrev pub LeavesOver : (List ℕ → Option (List ℕ)) → List (List ℕ) → List BookEntry → Task Transcript → Type 0
+LeavesOver held words book t = (texts : List (List ℕ)) → AreTold held words 1 texts → Leaves t words texts book
+
+-- of what the words call
+abbrev pub LeftBy : (List ℕ → Option (List ℕ)) → List (List ℕ) → List BookEntry → Type 0
+LeftBy held words book = IfCalled (command_of words) (LeavesOver held words book)
+
+-- and whatever the status
 abbrev pub LeftRow : Outcome → Type 0
-LeftRow o = (c : Command) (texts : List (List ℕ)) → CallsWith o c texts → Leaves c o.words texts o.book
+LeftRow o = LeftBy o.loads.held o.words o.book

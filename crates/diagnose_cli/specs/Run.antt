@@ -1,11 +1,10 @@
 -- What the whole run does.
-use Rattle.std.specs.Prelude.{◌≡◌, ◌≢◌, ◌⊎◌, ℕ, List, [], ◌∷◌, ◌≤◌, codes, None, IfSome, IsSomeAnd, Bool, false}
+use Rattle.std.specs.Prelude.{⊤, length, ◌≡◌, ◌≢◌, ◌⊎◌, ℕ, List, [], ◌∷◌, ◌≤◌, codes, false}
 use Rattle.des_base.specs.Outside.{Rose, Took}
 use Rattle.des_base.specs.CommandWords.{word_at}
 use Rattle.telling.specs.Lines.{line_with_number}
-use Rattle.diagnose_cli.specs.declared.command.Command.{Command}
-use Rattle.diagnose_cli.specs.Tasks.{task_of}
-use Rattle.diagnose_cli.specs.Commands.{command_of, file_count, files_of}
+use Rattle.diagnose_cli.specs.Tasks.{IfCalled, MatchCalled}
+use Rattle.diagnose_cli.specs.Commands.{command_of}
 use Rattle.diagnose_cli.specs.Due.{Due, MayCome, StopsEmpty}
 use Rattle.diagnose_cli.specs.Outcomes.{Outcome, IsUnbroken}
 use Rattle.diagnose_cli.specs.Deciding.{DecidedRow}
@@ -32,7 +31,7 @@ RoseFor o i = Rose (o.loads.before (word_at o.words i)) (o.loads.after (word_at 
 
 -- the command has a file of this number, counted from 1
 abbrev pub HasFile : List (List ℕ) → ℕ → Type 0
-HasFile words file = IsSomeAnd (command_of words) (λ c. (1 ≤ file) × (file ≤ file_count c))
+HasFile words file = MatchCalled (command_of words) ⊥ (λ t. (1 ≤ file) × (file ≤ length t.files))
 
 -- the load of a file of the command failed, and `LOAD` with its number was put
 pub record LoadRow (o : Outcome) : Type 0 where
@@ -41,10 +40,14 @@ pub record LoadRow (o : Outcome) : Type 0 where
   pub rose : RoseFor o file
   pub put : Took o.before o.now (line_with_number (codes "LOAD ") file ∷ [])
 
+-- the words call no command
+abbrev pub CallsNone : List (List ℕ) → Type 0
+CallsNone words = MatchCalled (command_of words) ⊤ (λ t. ⊥)
+
 -- by its status, whichever command the words call; rose says that the sink's count of faults rose
 pub record Ran (o : Outcome) (rose : Type 0) : Type 0 where
   pub stops : IsUnbroken o.status → StopRow o
-  pub usage : o.status ≡ 2 → command_of o.words ≡ None
+  pub usage : o.status ≡ 2 → CallsNone o.words
   pub ends : o.status ≢ 4 → Ends o
   pub load_failed : o.status ≡ 3 → LoadRow o
   pub put_failed : o.status ≡ 4 → rose
@@ -53,17 +56,13 @@ pub record Ran (o : Outcome) (rose : Type 0) : Type 0 where
 
 -- ---- what isn't asked for
 
--- the command asks a question
-abbrev pub is_question : Command → Bool
-is_question c = (task_of c).asks
-
 -- the words call no command that asks a question
 abbrev pub AsksNone : List (List ℕ) → Type 0
-AsksNone words = IfSome (command_of words) (λ c. is_question c ≡ false)
+AsksNone words = IfCalled (command_of words) (λ t. t.asks ≡ false)
 
 -- the words call no command that has files
 abbrev pub LoadsNone : List (List ℕ) → Type 0
-LoadsNone words = IfSome (command_of words) (λ c. files_of c ≡ [])
+LoadsNone words = IfCalled (command_of words) (λ t. t.files ≡ [])
 
 -- the status says why there is no reply: the words, a file, its text, that there is no such fault event, or the size of the question
 pub record SaysStop (status : ℕ) : Type 0 where

@@ -13,8 +13,8 @@ use Rattle.report.specs.Replies.{text_of_twin}
 use Rattle.twin_test.specs.Tested.{AreTwinRuns, IsClosedBook, NoTwins}
 use Rattle.twin_test.specs.TwinCodes.{AskTwins, twin_variables}
 use Rattle.answers.specs.declared.twin.Twin.TheVariants.{Ambiguous, Clear, Undecided}
-use Rattle.diagnose_cli.specs.declared.command.Command.TheVariants.{One}
-use Rattle.diagnose_cli.specs.declared.command.Single.TheVariants.{Twin}
+use Rattle.diagnose_cli.specs.Commands.{twin}
+use Rattle.diagnose_cli.specs.Tasks.{one}
 use Rattle.diagnose_cli.specs.Outcomes.{Outcome}
 use Rattle.diagnose_cli.specs.Rows.{CallsWith, Row}
 
@@ -48,8 +48,8 @@ pub record TellsUntested (o : Outcome) (net : Net) (n d budget : ℕ) : Type 0 w
 
 -- By the status, over whatever text the shelf tells. A budget of 3 to the number of variables that network, steps and what is to be seen determine decides.
 pub record TwinRows (o : Outcome) : Type 0 where
-  pub answered : (n d budget : ℕ) (text : List ℕ) → Row o (Twin n d budget) (text ∷ [])
-  pub ambiguous : (n d budget : ℕ) (text : List ℕ) → CallsWith o (One (Twin n d budget)) (text ∷ []) → o.status ≡ 17 → TellsTwins o (network_of text) n d
-  pub clear : (n d budget : ℕ) (text : List ℕ) → CallsWith o (One (Twin n d budget)) (text ∷ []) → o.status ≡ 0 → TellsNoTwins o (network_of text) n d
-  pub undecided : (n d budget : ℕ) (text : List ℕ) → CallsWith o (One (Twin n d budget)) (text ∷ []) → o.status ≡ 11 → TellsUntested o (network_of text) n d budget
-  pub decided : (n d budget : ℕ) (text : List ℕ) → CallsWith o (One (Twin n d budget)) (text ∷ []) → 3 ^ twin_variables (network_of text) n d ≤ budget → o.status ≢ 11
+  pub answered : (n d budget : ℕ) (text : List ℕ) → Row o twin (record { steps = n; after = d; budget = budget }) (text ∷ [])
+  pub ambiguous : (n d budget : ℕ) (text : List ℕ) → CallsWith o (one twin) (record { steps = n; after = d; budget = budget }) (text ∷ []) → o.status ≡ 17 → TellsTwins o (network_of text) n d
+  pub clear : (n d budget : ℕ) (text : List ℕ) → CallsWith o (one twin) (record { steps = n; after = d; budget = budget }) (text ∷ []) → o.status ≡ 0 → TellsNoTwins o (network_of text) n d
+  pub undecided : (n d budget : ℕ) (text : List ℕ) → CallsWith o (one twin) (record { steps = n; after = d; budget = budget }) (text ∷ []) → o.status ≡ 11 → TellsUntested o (network_of text) n d budget
+  pub decided : (n d budget : ℕ) (text : List ℕ) → CallsWith o (one twin) (record { steps = n; after = d; budget = budget }) (text ∷ []) → 3 ^ twin_variables (network_of text) n d ≤ budget → o.status ≢ 11

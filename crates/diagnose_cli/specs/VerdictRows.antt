@@ -10,8 +10,8 @@ use Rattle.model_text.specs.ModelFaults.{network_of}
 use Rattle.replay.specs.Explanation.{IsAbsent, IsMany}
 use Rattle.verdict_telling.specs.Deciding.{IsSmallFor}
 use Rattle.verdict_telling.specs.Whole.{HaveReplies, events_behind, told_of}
-use Rattle.diagnose_cli.specs.declared.command.Command.TheVariants.{Verdicts}
 use Rattle.endings.specs.Endings.{status_of_kind}
+use Rattle.diagnose_cli.specs.Commands.{verdicts}
 use Rattle.diagnose_cli.specs.Outcomes.{Outcome, IsUnbroken}
 use Rattle.diagnose_cli.specs.Rows.{CallsWith, ReadsFiles}
 use Rattle.diagnose_cli.specs.VerdictReplies.{kind_of_told}
@@ -31,8 +31,8 @@ IsAnswerStatus status = (status ≡ 0) ⊎ ((10 ≤ status) × (status ≤ 12))
 
 -- Where its files can be read it answers so. Over whatever two texts the shelf tells it does so by the status: nothing explains the log where it is 10, and all that explains it has more than 255 faults where it is 12. Where it is 11 the budget is below 3 to the number of the book's variables, so that one from there on leaves nothing open.
 pub record VerdictRows (o : Outcome) : Type 0 where
-  pub judged : (steps budget : ℕ) (text alarms : List ℕ) → ReadsFiles o (Verdicts steps budget) (text ∷ alarms ∷ []) → IsUnbroken o.status → TellsInAll o (network_of text) (log_of alarms) steps budget
-  pub told : (steps budget : ℕ) (text alarms : List ℕ) → CallsWith o (Verdicts steps budget) (text ∷ alarms ∷ []) → IsAnswerStatus o.status → TellsInAll o (network_of text) (log_of alarms) steps budget
-  pub absent : (steps budget : ℕ) (text alarms : List ℕ) → CallsWith o (Verdicts steps budget) (text ∷ alarms ∷ []) → o.status ≡ 10 → IsAbsent (network_of text) (log_of alarms) steps
-  pub many : (steps budget : ℕ) (text alarms : List ℕ) → CallsWith o (Verdicts steps budget) (text ∷ alarms ∷ []) → o.status ≡ 12 → IsMany (network_of text) (log_of alarms) steps
-  pub undecided : (steps budget : ℕ) (text alarms : List ℕ) → CallsWith o (Verdicts steps budget) (text ∷ alarms ∷ []) → o.status ≡ 11 → IsSmallFor o.book budget
+  pub judged : (steps budget : ℕ) (text alarms : List ℕ) → ReadsFiles o verdicts (record { steps = steps; budget = budget }) (text ∷ alarms ∷ []) → IsUnbroken o.status → TellsInAll o (network_of text) (log_of alarms) steps budget
+  pub told : (steps budget : ℕ) (text alarms : List ℕ) → CallsWith o verdicts (record { steps = steps; budget = budget }) (text ∷ alarms ∷ []) → IsAnswerStatus o.status → TellsInAll o (network_of text) (log_of alarms) steps budget
+  pub absent : (steps budget : ℕ) (text alarms : List ℕ) → CallsWith o verdicts (record { steps = steps; budget = budget }) (text ∷ alarms ∷ []) → o.status ≡ 10 → IsAbsent (network_of text) (log_of alarms) steps
+  pub many : (steps budget : ℕ) (text alarms : List ℕ) → CallsWith o verdicts (record { steps = steps; budget = budget }) (text ∷ alarms ∷ []) → o.status ≡ 12 → IsMany (network_of text) (log_of alarms) steps
+  pub undecided : (steps budget : ℕ) (text alarms : List ℕ) → CallsWith o verdicts (record { steps = steps; budget = budget }) (text ∷ alarms ∷ []) → o.status ≡ 11 → IsSmallFor o.book budget

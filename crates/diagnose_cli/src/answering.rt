@@ -1,15 +1,14 @@
-// A command with one reply: its files are read, and it answers over them.
-ghost use Rattle.std.specs.Prelude.{◌≡◌, ◌≢◌, ◌<◌, ℕ, List, [], true, false, length, IfErr, ⊤};
-ghost use Rattle.diagnose_cli.specs.Commands.{IsWithinBounds, files_of, is_called, read_words};
-ghost use Rattle.diagnose_cli.specs.Due.{AnswersSpelled, Closes};
-ghost use Rattle.diagnose_cli.specs.Rows.{AreTold, Leaves};
-ghost use Rattle.diagnose_cli.specs.Run.{is_question};
-ghost use Rattle.diagnose_cli.specs.declared.command.Command.TheVariants.{One};
-ghost use Rattle.diagnose_cli.specs.declared.command.Single.{Single as SingleCommand};
+// A command with one reply: its words are read, then its files, and it answers over them.
+ghost use Rattle.std.specs.Prelude.{◌≡◌, ◌≢◌, ℕ, List, [], true, false, length, nat_lt, option_map, IfErr, IfSome, ⊤};
+ghost use Rattle.des_base.specs.CommandWords.{word_at};
+ghost use Rattle.diagnose_cli.specs.Commands.{IsListed};
+ghost use Rattle.diagnose_cli.specs.Due.{Closes, IsDue};
+ghost use Rattle.diagnose_cli.specs.Rows.{Leaves, LeftBy};
+ghost use Rattle.diagnose_cli.specs.Run.{AsksNone, LoadsNone};
+ghost use Rattle.diagnose_cli.specs.Tasks.{AreWords, NamedCommand, Reply as OneReply, one, told_once};
 ghost use Rattle.endings.specs.Files.{loads};
 ghost use Rattle.endings.specs.Transcripts.{UnlessMemory, once};
 
-use crate::command::{Command, Single};
 use crate::reading::Reading;
 use des_base::{Shelf, WordList};
 use endings::{Reply, Stop};
@@ -21,11 +20,27 @@ pub trait Answering {
     /// What is read of its files.
     type Files: Reading + Drop;
 
-    /// Which one it is.
-    ghost command: { Self → SingleCommand };
+    /// Its record.
+    ghost named: { NamedCommand OneReply };
 
-    /// What has to be so of the words, beside that they call it.
-    ghost asks: { Self → List (List ℕ) → Type 0 } = { λ _ _. ⊤ };
+    /// It stands in the list.
+    ghost listed: { (words : List (List ℕ)) → IsListed (one named) words };
+
+    /// What its words spell.
+    ghost word: { Self → named.Word };
+
+    /// What is so of that.
+    ghost fits: { Self → Type 0 } = { λ _. ⊤ };
+
+    /// How many words call it.
+    fn word_count() -> usize
+        ensures { result ≡ named.count };
+
+    /// The command that so many words spell.
+    fn read(words: &WordList) -> Option<Self>
+        requires { length words.now ≡ named.count }
+        ensures read { option_map word result ≡ named.spelled words.now }
+        ensures fits { IfSome result fits };
 
     /// The reply over its files, or why it has none. A command that asks nothing leaves the book as it is.
     fn answer(
@@ -35,39 +50,62 @@ pub trait Answering {
         files: &Self::Files,
         book: &mut Ledger,
     ) -> Result<Reply, Stop>
-        requires asks { asks self.now words.now }
-        requires words { read_words (Command.One (command self.now)) < length words.now }
-        requires bounds { IsWithinBounds (Command.One (command self.now)) }
+        requires words { length words.now ≡ named.count }
+        requires fits { fits self.now }
         requires sound { Self.Files.sound files.now }
         requires empty { book.old.entries ≡ [] }
-        ensures closes { (texts : List (List ℕ)) → Self.Files.reads texts files.now → UnlessMemory result (Closes (Command.One (command self.now)) words.now book.new.entries texts (once result)) }
-        ensures unasked { is_question (Command.One (command self.now)) ≡ false → book.new ≡ book.old }
+        ensures closes { (texts : List (List ℕ)) → Self.Files.reads texts files.now → UnlessMemory result (Closes (told_once (named.task (word self.now))) words.now book.new.entries texts (once result)) }
+        ensures unasked { (named.task (word self.now)).asks ≡ false → book.new ≡ book.old }
         ensures stopped { IfErr result (λ stop. stop ≢ Stop.Memory → book.new ≡ book.old) }
-        ensures left { (texts : List (List ℕ)) → Self.Files.reads texts files.now → Leaves (Command.One (command self.now)) words.now texts book.new.entries };
+        ensures left { (texts : List (List ℕ)) → Self.Files.reads texts files.now → Leaves (told_once (named.task (word self.now))) words.now texts book.new.entries };
 
-    ghost has_files: { (s : Self) → files_of (One (command s)) ≡ Self.Files.kinds };
+    ghost has_files: { (w : named.Word) → (named.task w).files ≡ Self.Files.kinds };
+
+    ghost has_words: { nat_lt (length Self.Files.kinds) named.count ≡ true };
 }
 
-/// The reply of the command that the words call.
-pub fn answer_over<C: Answering, F: Shelf>(
+/// The reply to the words, of which the first is the name of the command.
+pub fn answer_as<C: Answering + Drop, F: Shelf>(
     alloc: Global,
     words: &WordList,
     shelf: &mut F,
-    called: Single,
+    book: &mut Ledger,
+) -> Result<Reply, Stop>
+    requires name { word_at words.now 0 ≡ C.named.name }
+    requires empty { book.old.entries ≡ [] }
+    ensures due { IsDue (loads F.held F.faults shelf.old shelf.new) words.now book.new.entries result }
+    ensures no_load { LoadsNone words.now → shelf.new ≡ shelf.old }
+    ensures no_question { AsksNone words.now → book.new ≡ book.old }
+    ensures stopped { IfErr result (λ stop. stop ≢ Stop.Memory → book.new ≡ book.old) }
+    ensures left { LeftBy (F.held shelf.old) words.now book.new.entries }
+{
+    let count = C::word_count();
+    let len = words.len();
+    if len != count {
+        return Err(Stop::Usage);
+    }
+    match C::read(words) {
+        Some(command) => answer_over(alloc, words, shelf, &command, book),
+        None => Err(Stop::Usage),
+    }
+}
+
+// The reply of the command that the words call.
+fn answer_over<C: Answering, F: Shelf>(
+    alloc: Global,
+    words: &WordList,
+    shelf: &mut F,
     command: &C,
     book: &mut Ledger,
 ) -> Result<Reply, Stop>
-    requires is { C.command command.now ≡ called }
-    requires calls { is_called words.now (Command.One called) ≡ true }
-    requires asks { C.asks command.now words.now }
-    requires words { read_words (Command.One called) < length words.now }
-    requires bounds { IsWithinBounds (Command.One called) }
+    requires called { AreWords (one C.named) (C.word command.now) words.now }
+    requires fits { C.fits command.now }
     requires empty { book.old.entries ≡ [] }
-    ensures due { UnlessMemory result (AnswersSpelled (loads F.held F.faults shelf.old shelf.new) words.now (Command.One called) book.new.entries (once result)) }
-    ensures no_load { files_of (Command.One called) ≡ [] → shelf.new ≡ shelf.old }
-    ensures no_question { is_question (Command.One called) ≡ false → book.new ≡ book.old }
+    ensures due { IsDue (loads F.held F.faults shelf.old shelf.new) words.now book.new.entries result }
+    ensures no_load { LoadsNone words.now → shelf.new ≡ shelf.old }
+    ensures no_question { AsksNone words.now → book.new ≡ book.old }
     ensures stopped { IfErr result (λ stop. stop ≢ Stop.Memory → book.new ≡ book.old) }
-    ensures left { (texts : List (List ℕ)) → AreTold (F.held shelf.old) words.now 1 texts → Leaves (Command.One called) words.now texts book.new.entries }
+    ensures left { LeftBy (F.held shelf.old) words.now book.new.entries }
 {
     let files = C::Files::fetch(alloc, words, shelf)?;
     let answer = command.answer(alloc, words, &files, book);

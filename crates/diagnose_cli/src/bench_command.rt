@@ -2,7 +2,8 @@
 ghost use Rattle.std.specs.Prelude.{◌≡◌, ◌≢◌, ◌≤◌, ◌==◌, ◌++◌, List, [], IfErr, IfOk, codes, length, refl};
 ghost use Rattle.std.specs.List.{position_or_len};
 ghost use Rattle.des_base.specs.declared.TheConstants.{MOST_STEPS};
-ghost use Rattle.diagnose_cli.specs.declared.command.Single.TheVariants.{Bench as BenchCalled};
+ghost use Rattle.diagnose_cli.specs.Commands.{bench as bench_record};
+ghost use Rattle.gen_plant.specs.Plant.{most_units};
 ghost use Rattle.diagnose_cli.specs.Due.{EndsBySize};
 ghost use Rattle.diagnose_cli.specs.Replies.{SaysSummary, first_line};
 ghost use Rattle.endings.specs.Transcripts.{IsOne, UnlessMemory, once};
@@ -12,7 +13,7 @@ ghost use Rattle.telling.specs.Lines.{line_with_number};
 
 use crate::answering::Answering;
 use crate::asking::ask_by;
-use crate::command::Limits;
+use crate::command::{Limits, limits_of, number_of, units_of};
 use des_base::{Memory, WordList};
 use endings::{Reply, Stop};
 use gen_plant::generate;
@@ -33,7 +34,28 @@ pub struct BenchCommand {
 impl Answering for BenchCommand {
     type Files = ();
 
-    ghost command = { λ s. BenchCalled s.units s.start s.limits.steps s.limits.budget };
+    ghost named = { bench_record };
+
+    ghost listed = { λ words. refl };
+
+    ghost word = { λ s. s };
+
+    ghost fits = { λ s. (s.units ≤ most_units) × (s.limits.steps ≤ MOST_STEPS) };
+
+    fn word_count() -> usize {
+        5
+    }
+
+    fn read(words: &WordList) -> Option<BenchCommand> {
+        let units = units_of(words.word(1))?;
+        let start = number_of(words.word(2))?;
+        let limits = limits_of(words.word(3), words.word(4))?;
+        Some(BenchCommand {
+            units,
+            start,
+            limits,
+        })
+    }
 
     fn answer(
         &self,
@@ -52,7 +74,9 @@ impl Answering for BenchCommand {
         answer
     }
 
-    ghost has_files = { λ s. refl };
+    ghost has_files = { λ w. refl };
+
+    ghost has_words = { refl };
 }
 
 // What is found of a plant.

@@ -2,14 +2,14 @@
 ghost use Rattle.std.specs.Prelude.{◌≡◌, ◌≤◌, ℕ, List, [], length, IfOk, refl};
 ghost use Rattle.des_base.specs.declared.TheConstants.{MOST_STEPS};
 ghost use Rattle.diagnose_cli.specs.CheapReplies.{SaysCheap, kind_of_cheap, reply_of_cheap};
-ghost use Rattle.diagnose_cli.specs.declared.command.Single.TheVariants.{Cheapest as CheapestCalled};
+ghost use Rattle.diagnose_cli.specs.Commands.{cheapest};
 ghost use Rattle.event_costs.specs.Prices.{cost_at};
 ghost use Rattle.pricing.specs.LeastCost.{IsPricedBy, IsWithinCosts, LeavesCosts};
 ghost use Rattle.proof_ledger.specs.Book.{BookEntry};
 ghost use Rattle.report.specs.Replies.{CheapEventsKnown};
 
 use crate::answering::Answering;
-use crate::command::Limits;
+use crate::command::{Limits, limits_of};
 use crate::reading::CostedCase;
 use cost_least::{Cheap, cost_size};
 use des_base::{Memory, WordList};
@@ -32,7 +32,22 @@ pub struct CheapestCommand {
 impl Answering for CheapestCommand {
     type Files = CostedCase;
 
-    ghost command = { λ s. CheapestCalled s.limits.steps s.limits.budget };
+    ghost named = { cheapest };
+
+    ghost listed = { λ words. refl };
+
+    ghost word = { λ s. s.limits };
+
+    ghost fits = { λ s. s.limits.steps ≤ MOST_STEPS };
+
+    fn word_count() -> usize {
+        6
+    }
+
+    fn read(words: &WordList) -> Option<CheapestCommand> {
+        let limits = limits_of(words.word(4), words.word(5))?;
+        Some(CheapestCommand { limits })
+    }
 
     fn answer(
         &self,
@@ -49,7 +64,9 @@ impl Answering for CheapestCommand {
         Ok(reply_to_costs(alloc, case, &files.table, self.limits, book)?)
     }
 
-    ghost has_files = { λ s. refl };
+    ghost has_files = { λ w. refl };
+
+    ghost has_words = { refl };
 }
 
 // The reply to a question of costs that is not too large.

@@ -1,6 +1,6 @@
 // The command `check`: whether a proof refutes a formula.
 ghost use Rattle.std.specs.Prelude.{◌≡◌, IfOk, refl};
-ghost use Rattle.diagnose_cli.specs.declared.command.Single.TheVariants.{Check as CheckCalled};
+ghost use Rattle.diagnose_cli.specs.Commands.{check};
 ghost use Rattle.diagnose_cli.specs.Replies.{kind_of_checked, reply_of_checked};
 ghost use Rattle.proof_ledger.specs.Checking.{check_proof};
 
@@ -20,7 +20,19 @@ pub struct CheckCommand;
 impl Answering for CheckCommand {
     type Files = CnfProof;
 
-    ghost command = { λ s. CheckCalled };
+    ghost named = { check };
+
+    ghost listed = { λ words. refl };
+
+    ghost word = { λ s. tt };
+
+    fn word_count() -> usize {
+        3
+    }
+
+    fn read(_words: &WordList) -> Option<CheckCommand> {
+        Some(CheckCommand)
+    }
 
     fn answer(
         &self,
@@ -32,7 +44,9 @@ impl Answering for CheckCommand {
         Ok(check_proof(alloc, &files.cnf, &files.proof)?)
     }
 
-    ghost has_files = { λ s. refl };
+    ghost has_files = { λ w. refl };
+
+    ghost has_words = { refl };
 }
 
 // The reply to a proof.

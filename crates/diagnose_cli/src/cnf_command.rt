@@ -19,7 +19,7 @@ const BOUND_LIMIT: u64 = 255;
 impl Replying for FormulaWithin {
     ghost question = { cnf_question };
 
-    ghost listed = { λ last. refl };
+    ghost listed = { λ words. refl };
 
     ghost word = { λ s. s.bound };
 

@@ -18,7 +18,7 @@ use std::alloc::Global;
 impl Replying for Refutation {
     ghost question = { proof_question };
 
-    ghost listed = { λ last. refl };
+    ghost listed = { λ words. refl };
 
     ghost word = { λ s. s.budget };
 

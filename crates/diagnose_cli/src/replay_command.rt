@@ -1,6 +1,6 @@
 // The command `replay`: whether a run explains a log.
 ghost use Rattle.std.specs.Prelude.{◌≡◌, ◌<◌, All, length, IfOk, refl};
-ghost use Rattle.diagnose_cli.specs.declared.command.Single.TheVariants.{Replay as ReplayCalled};
+ghost use Rattle.diagnose_cli.specs.Commands.{replay};
 ghost use Rattle.diagnose_cli.specs.Replies.{kind_of_replayed, reply_of_replayed};
 ghost use Rattle.log_order.specs.Adding.{names_of};
 ghost use Rattle.replay.specs.Replayed.{IsReplayed, NamesKnown};
@@ -8,6 +8,7 @@ ghost use Rattle.replay.specs.Traced.{word_of};
 ghost use Rattle.replay.specs.declared.replaying.Replayed.{Replayed};
 
 use crate::answering::Answering;
+use crate::command::steps_of;
 use crate::reading::CaseRun;
 use des_base::{Memory, WordList};
 use endings::{Kind, Reply, Stop};
@@ -27,7 +28,20 @@ pub struct ReplayCommand {
 impl Answering for ReplayCommand {
     type Files = CaseRun;
 
-    ghost command = { λ s. ReplayCalled s.steps };
+    ghost named = { replay };
+
+    ghost listed = { λ words. refl };
+
+    ghost word = { λ s. s.steps };
+
+    fn word_count() -> usize {
+        5
+    }
+
+    fn read(words: &WordList) -> Option<ReplayCommand> {
+        let steps = steps_of(words.word(4))?;
+        Some(ReplayCommand { steps })
+    }
 
     fn answer(
         &self,
@@ -39,7 +53,9 @@ impl Answering for ReplayCommand {
         Ok(replay_run(alloc, &files.case, &files.run, self.steps)?)
     }
 
-    ghost has_files = { λ s. refl };
+    ghost has_files = { λ w. refl };
+
+    ghost has_words = { refl };
 }
 
 // The reply to a run of events of the network.

@@ -1,25 +1,26 @@
 // All that the program does, but for where its words, files and output come from.
-ghost use Rattle.std.specs.Prelude.{◌≡◌, ◌≢◌, ◌<◌, ℕ, List, [], false, length, IfErr};
+ghost use Rattle.std.specs.Prelude.{◌≡◌, ◌≤◌, [], IfSome};
+ghost use Rattle.des_base.specs.CommandWords.{word_at};
 ghost use Rattle.des_base.specs.Outside.{Rose};
-ghost use Rattle.diagnose_cli.specs.Commands.{IsWithinBounds, files_of, is_called, read_words};
-ghost use Rattle.diagnose_cli.specs.Due.{AnswersSpelled};
+ghost use Rattle.diagnose_cli.specs.Commands.{session, verdicts};
+ghost use Rattle.diagnose_cli.specs.Tasks.{read_words};
+ghost use Rattle.diagnose_cli.specs.Words.{most_steps};
 ghost use Rattle.endings.specs.Files.{loads};
 ghost use Rattle.diagnose_cli.specs.Outcomes.{outcome};
-ghost use Rattle.diagnose_cli.specs.Rows.{TraceRow, ShowRow, ReplayRow, CheckRows, AskedRow, DiagnoseRows, GenerateRows, BenchRow, SessionRow, AreTold, Leaves, LeftRow};
+ghost use Rattle.diagnose_cli.specs.Rows.{TraceRow, ShowRow, ReplayRow, CheckRows, AskedRow, DiagnoseRows, GenerateRows, BenchRow, SessionRow, LeftRow};
 ghost use Rattle.diagnose_cli.specs.CheapRows.{CheapRows};
 ghost use Rattle.diagnose_cli.specs.TwinRows.{TwinRows};
 ghost use Rattle.diagnose_cli.specs.VerdictRows.{VerdictRows};
-ghost use Rattle.diagnose_cli.specs.Run.{Does, LeavesAlone, Ran, is_question};
-ghost use Rattle.endings.specs.Transcripts.{UnlessMemory, once};
+ghost use Rattle.diagnose_cli.specs.Run.{CallsNone, Does, LeavesAlone, Ran};
 ghost use Rattle.telling.specs.Telling.{RisesExactlyIf};
 
-use crate::answering::answer_over;
-use crate::asking::ask_named;
+use crate::answering::{Answering, answer_as};
+use crate::asking::Question;
 use crate::bench_command::BenchCommand;
 use crate::cheapest_command::CheapestCommand;
 use crate::check_command::CheckCommand;
-use crate::command::{Command, Limits, Single, read_command};
-use crate::generate_command::{GenerateLogCommand, GenerateModelCommand};
+use crate::command::{Limits, limits_of};
+use crate::generate_command::GenerateCommand;
 use crate::replay_command::ReplayCommand;
 use crate::session_command::session_command;
 use crate::show_command::ShowCommand;
@@ -27,7 +28,8 @@ use crate::trace_command::TraceCommand;
 use crate::twin_command::TwinCommand;
 use crate::verdicts_command::verdicts_command;
 use des_base::{Shelf, Sink, WordList};
-use endings::{Reply, Stop, put_once};
+use endings::{Stop, put_once};
+use inquiries::{FormulaWithin, LeastFaults, Refutation};
 use proof_ledger::Ledger;
 use std::alloc::Global;
 
@@ -65,7 +67,7 @@ pub fn run<F: Shelf, S: Sink>(
     respond(alloc, words, shelf, out, book)
 }
 
-// Puts what the command that is called says.
+// Puts what the command says that the first word names.
 fn respond<F: Shelf, S: Sink>(
     alloc: Global,
     words: &WordList,
@@ -79,86 +81,114 @@ fn respond<F: Shelf, S: Sink>(
     ensures left { LeftRow (outcome (loads F.held F.faults shelf.old shelf.new) words.now (S.taken out.old) (S.taken out.new) book.new.entries result) }
     ensures failures { RisesExactlyIf (result ≡ 4) (S.failures out.old) (S.failures out.new) }
 {
-    match read_command(words) {
-        None => put_once(alloc, Err(Stop::Usage), out),
-        Some(Command::Session { steps, budget }) => {
-            session_command(alloc, words, shelf, Limits { steps, budget }, out, book)
-        }
-        Some(Command::Verdicts { steps, budget }) => {
-            verdicts_command(alloc, words, shelf, Limits { steps, budget }, out, book)
-        }
-        Some(Command::One(command)) => {
-            let ending = answer(alloc, words, shelf, command, book);
-            put_once(alloc, ending, out)
-        }
+    if words.len() == 0 {
+        return put_usage(alloc, words, shelf, out, book);
+    }
+    match words.word(0) {
+        "trace" => put_reply::<TraceCommand, F, S>(alloc, words, shelf, out, book),
+        "show" => put_reply::<ShowCommand, F, S>(alloc, words, shelf, out, book),
+        "replay" => put_reply::<ReplayCommand, F, S>(alloc, words, shelf, out, book),
+        "check" => put_reply::<CheckCommand, F, S>(alloc, words, shelf, out, book),
+        "generate" => put_reply::<GenerateCommand, F, S>(alloc, words, shelf, out, book),
+        "bench" => put_reply::<BenchCommand, F, S>(alloc, words, shelf, out, book),
+        "twin" => put_reply::<TwinCommand, F, S>(alloc, words, shelf, out, book),
+        "cheapest" => put_reply::<CheapestCommand, F, S>(alloc, words, shelf, out, book),
+        "diagnose" => put_reply::<Question<LeastFaults>, F, S>(alloc, words, shelf, out, book),
+        "cnf" => put_reply::<Question<FormulaWithin>, F, S>(alloc, words, shelf, out, book),
+        "proof" => put_reply::<Question<Refutation>, F, S>(alloc, words, shelf, out, book),
+        "session" => put_session(alloc, words, shelf, out, book),
+        "verdicts" => put_verdicts(alloc, words, shelf, out, book),
+        _ => put_usage(alloc, words, shelf, out, book),
     }
 }
 
-// The reply to a command that has one, if the words that spell it call it.
-fn answer<F: Shelf>(
+// Puts that the words call no command.
+fn put_usage<F: Shelf, S: Sink>(
+    alloc: Global,
+    _words: &WordList,
+    _shelf: &mut F,
+    out: &mut S,
+    _book: &mut Ledger,
+) -> u8
+    requires none { CallsNone _words.now }
+    requires empty { _book.old.entries ≡ [] }
+    ensures does { Does (outcome (loads F.held F.faults _shelf.old _shelf.new) _words.now (S.taken out.old) (S.taken out.new) _book.new.entries result) (Rose (S.faults out.old) (S.faults out.new)) }
+    ensures left_alone { LeavesAlone _words.now result _shelf.old _shelf.new _book.old _book.new }
+    ensures left { LeftRow (outcome (loads F.held F.faults _shelf.old _shelf.new) _words.now (S.taken out.old) (S.taken out.new) _book.new.entries result) }
+    ensures failures { RisesExactlyIf (result ≡ 4) (S.failures out.old) (S.failures out.new) }
+{
+    put_once(alloc, Err(Stop::Usage), out)
+}
+
+// Puts the reply of a command that has one.
+fn put_reply<C: Answering + Drop, F: Shelf, S: Sink>(
     alloc: Global,
     words: &WordList,
     shelf: &mut F,
-    command: Single,
+    out: &mut S,
     book: &mut Ledger,
-) -> Result<Reply, Stop>
+) -> u8
+    requires name { word_at words.now 0 ≡ C.named.name }
     requires empty { book.old.entries ≡ [] }
-    requires words { read_words (Command.One command) < length words.now }
-    requires bounds { IsWithinBounds (Command.One command) }
-    ensures due { UnlessMemory result (AnswersSpelled (loads F.held F.faults shelf.old shelf.new) words.now (Command.One command) book.new.entries (once result)) }
-    ensures uncalled_shelf { is_called words.now (Command.One command) ≡ false → shelf.new ≡ shelf.old }
-    ensures uncalled_book { is_called words.now (Command.One command) ≡ false → book.new ≡ book.old }
-    ensures no_load { files_of (Command.One command) ≡ [] → shelf.new ≡ shelf.old }
-    ensures no_question { is_question (Command.One command) ≡ false → book.new ≡ book.old }
-    ensures stopped { IfErr result (λ stop. stop ≢ Stop.Memory → book.new ≡ book.old) }
-    ensures left { (texts : List (List ℕ)) → AreTold (F.held shelf.old) words.now 1 texts → Leaves (Command.One command) words.now texts book.new.entries }
+    ensures does { Does (outcome (loads F.held F.faults shelf.old shelf.new) words.now (S.taken out.old) (S.taken out.new) book.new.entries result) (Rose (S.faults out.old) (S.faults out.new)) }
+    ensures left_alone { LeavesAlone words.now result shelf.old shelf.new book.old book.new }
+    ensures left { LeftRow (outcome (loads F.held F.faults shelf.old shelf.new) words.now (S.taken out.old) (S.taken out.new) book.new.entries result) }
+    ensures failures { RisesExactlyIf (result ≡ 4) (S.failures out.old) (S.failures out.new) }
 {
-    match command {
-        Single::Trace => answer_over(alloc, words, shelf, command, &TraceCommand, book),
-        Single::Show => answer_over(alloc, words, shelf, command, &ShowCommand, book),
-        Single::Replay(steps) => {
-            answer_over(alloc, words, shelf, command, &ReplayCommand { steps }, book)
-        }
-        Single::Check => answer_over(alloc, words, shelf, command, &CheckCommand, book),
-        Single::Ask { steps } => ask_named(alloc, words, shelf, steps, book),
-        Single::GenerateModel { units, start } => {
-            let generate = GenerateModelCommand { units, start };
-            answer_over(alloc, words, shelf, command, &generate, book)
-        }
-        Single::GenerateLog { units, start } => {
-            let generate = GenerateLogCommand { units, start };
-            answer_over(alloc, words, shelf, command, &generate, book)
-        }
-        Single::Bench {
-            units,
-            start,
-            steps,
-            budget,
-        } => {
-            let bench = BenchCommand {
-                units,
-                start,
-                limits: Limits { steps, budget },
-            };
-            answer_over(alloc, words, shelf, command, &bench, book)
-        }
-        Single::Twin {
-            steps,
-            after,
-            budget,
-        } => {
-            let twin = TwinCommand {
-                steps,
-                after,
-                budget,
-            };
-            answer_over(alloc, words, shelf, command, &twin, book)
-        }
-        Single::Cheapest { steps, budget } => {
-            let cheapest = CheapestCommand {
-                limits: Limits { steps, budget },
-            };
-            answer_over(alloc, words, shelf, command, &cheapest, book)
-        }
+    let ending = answer_as::<C, F>(alloc, words, shelf, book);
+    put_once(alloc, ending, out)
+}
+
+// Puts what a session says.
+fn put_session<F: Shelf, S: Sink>(
+    alloc: Global,
+    words: &WordList,
+    shelf: &mut F,
+    out: &mut S,
+    book: &mut Ledger,
+) -> u8
+    requires name { word_at words.now 0 ≡ session.name }
+    requires empty { book.old.entries ≡ [] }
+    ensures does { Does (outcome (loads F.held F.faults shelf.old shelf.new) words.now (S.taken out.old) (S.taken out.new) book.new.entries result) (Rose (S.faults out.old) (S.faults out.new)) }
+    ensures left_alone { LeavesAlone words.now result shelf.old shelf.new book.old book.new }
+    ensures left { LeftRow (outcome (loads F.held F.faults shelf.old shelf.new) words.now (S.taken out.old) (S.taken out.new) book.new.entries result) }
+    ensures failures { RisesExactlyIf (result ≡ 4) (S.failures out.old) (S.failures out.new) }
+{
+    match read_limits(words) {
+        Some(limits) => session_command(alloc, words, shelf, limits, out, book),
+        None => put_usage(alloc, words, shelf, out, book),
+    }
+}
+
+// Puts what is said of a log and of each fault event.
+fn put_verdicts<F: Shelf, S: Sink>(
+    alloc: Global,
+    words: &WordList,
+    shelf: &mut F,
+    out: &mut S,
+    book: &mut Ledger,
+) -> u8
+    requires name { word_at words.now 0 ≡ verdicts.name }
+    requires empty { book.old.entries ≡ [] }
+    ensures does { Does (outcome (loads F.held F.faults shelf.old shelf.new) words.now (S.taken out.old) (S.taken out.new) book.new.entries result) (Rose (S.faults out.old) (S.faults out.new)) }
+    ensures left_alone { LeavesAlone words.now result shelf.old shelf.new book.old book.new }
+    ensures left { LeftRow (outcome (loads F.held F.faults shelf.old shelf.new) words.now (S.taken out.old) (S.taken out.new) book.new.entries result) }
+    ensures failures { RisesExactlyIf (result ≡ 4) (S.failures out.old) (S.failures out.new) }
+{
+    match read_limits(words) {
+        Some(limits) => verdicts_command(alloc, words, shelf, limits, out, book),
+        None => put_usage(alloc, words, shelf, out, book),
+    }
+}
+
+// The steps and the budget that five words spell.
+fn read_limits(words: &WordList) -> Option<Limits>
+    ensures spelled { result ≡ read_words session words.now }
+    ensures within { IfSome result (λ limits. limits.steps ≤ most_steps) }
+{
+    if words.len() == 5 {
+        limits_of(words.word(3), words.word(4))
+    } else {
+        None
     }
 }

@@ -3,10 +3,12 @@ ghost use Rattle.std.specs.Prelude.{◌≡◌, ◌<◌, ◌≤◌, [], length, S
 ghost use Rattle.alarm_session.specs.Session.{BeginsAs};
 ghost use Rattle.des_base.specs.Outside.{Rose};
 ghost use Rattle.des_base.specs.declared.TheConstants.{MOST_STEPS};
-ghost use Rattle.diagnose_cli.specs.Commands.{command_of};
+ghost use Rattle.diagnose_cli.specs.Commands.{session};
+ghost use Rattle.diagnose_cli.specs.Tasks.{AreWords};
 ghost use Rattle.diagnose_cli.specs.Due.{Due, EndsBySize, HasNotBegun, StopsEmpty};
 ghost use Rattle.endings.specs.Files.{loads};
 ghost use Rattle.endings.specs.Puts.{Speaks};
+ghost use Rattle.diagnose_cli.specs.Rows.{LeftBy};
 ghost use Rattle.diagnose_cli.specs.Run.{SaysStop};
 ghost use Rattle.diagnose_cli.specs.SessionReplies.{IsSession};
 ghost use Rattle.diagnose_cli.specs.Sessions.{MaySay, status_of_session};
@@ -17,7 +19,7 @@ ghost use Rattle.sat_order.specs.Rank.{IsRanked};
 ghost use Rattle.telling.specs.Telling.{RisesExactlyIf};
 ghost use Rattle.telling.specs.declared.each.Broken.TheVariants.{Put};
 
-use crate::command::{Command, Limits};
+use crate::command::Limits;
 use crate::reading::{Reading, Then};
 use crate::session_rows::{Plan, RowTeller};
 use alarm_session::Session;
@@ -45,12 +47,12 @@ pub fn session_command<F: Shelf, S: Sink>(
     out: &mut S,
     book: &mut Ledger,
 ) -> u8
-    requires called { command_of words.now ≡ Some (Command.Session limits.steps limits.budget) }
-    requires words { 2 < length words.now }
+    requires called { AreWords session limits words.now }
     requires steps { limits.steps ≤ MOST_STEPS }
     requires empty { book.old.entries ≡ [] }
     ensures speaks { Speaks (StopsEmpty (Due (loads F.held F.faults shelf.old shelf.new) words.now book.new.entries) book.new.entries) (HasNotBegun words.now book.new.entries) (S.taken out.old) (S.taken out.new) (Rose (S.faults out.old) (S.faults out.new)) result }
     ensures stopped { SaysStop result → book.new ≡ book.old }
+    ensures left { LeftBy (F.held shelf.old) words.now book.new.entries }
     ensures failures { RisesExactlyIf (result ≡ 4) (S.failures out.old) (S.failures out.new) }
 {
     match Then::<Network, Script>::fetch(alloc, words, shelf) {

@@ -1,6 +1,6 @@
 // The command `show`: a model in its plain form.
 ghost use Rattle.std.specs.Prelude.{◌≡◌, IfOk, OnOk, refl};
-ghost use Rattle.diagnose_cli.specs.declared.command.Single.TheVariants.{Show as ShowCalled};
+ghost use Rattle.diagnose_cli.specs.Commands.{show};
 ghost use Rattle.diagnose_cli.specs.Replies.{reply_of_model};
 ghost use Rattle.model_text.specs.ReadBack.{IsAsRead, ReadsBack};
 
@@ -19,7 +19,19 @@ pub struct ShowCommand;
 impl Answering for ShowCommand {
     type Files = Network;
 
-    ghost command = { λ s. ShowCalled };
+    ghost named = { show };
+
+    ghost listed = { λ words. refl };
+
+    ghost word = { λ s. tt };
+
+    fn word_count() -> usize {
+        2
+    }
+
+    fn read(_words: &WordList) -> Option<ShowCommand> {
+        Some(ShowCommand)
+    }
 
     fn answer(
         &self,
@@ -31,7 +43,9 @@ impl Answering for ShowCommand {
         Ok(reply_of_model(alloc, files)?)
     }
 
-    ghost has_files = { λ s. refl };
+    ghost has_files = { λ w. refl };
+
+    ghost has_words = { refl };
 }
 
 /// The reply that has the text of the network.

@@ -1,6 +1,6 @@
 // The command `trace`: whether the network of a model can perform a run.
 ghost use Rattle.std.specs.Prelude.{◌≡◌, ◌<◌, All, length, IfOk, refl};
-ghost use Rattle.diagnose_cli.specs.declared.command.Single.TheVariants.{Trace as TraceCalled};
+ghost use Rattle.diagnose_cli.specs.Commands.{trace};
 ghost use Rattle.diagnose_cli.specs.Replies.{kind_of_traced, reply_of_traced};
 ghost use Rattle.replay.specs.Traced.{IsTraced, word_of};
 ghost use Rattle.replay.specs.declared.tracing.Traced.{Traced};
@@ -22,7 +22,19 @@ pub struct TraceCommand;
 impl Answering for TraceCommand {
     type Files = RunOver;
 
-    ghost command = { λ s. TraceCalled };
+    ghost named = { trace };
+
+    ghost listed = { λ words. refl };
+
+    ghost word = { λ s. tt };
+
+    fn word_count() -> usize {
+        3
+    }
+
+    fn read(_words: &WordList) -> Option<TraceCommand> {
+        Some(TraceCommand)
+    }
 
     fn answer(
         &self,
@@ -34,7 +46,9 @@ impl Answering for TraceCommand {
         Ok(trace_run(alloc, &files.net, &files.run)?)
     }
 
-    ghost has_files = { λ s. refl };
+    ghost has_files = { λ w. refl };
+
+    ghost has_words = { refl };
 }
 
 // The reply to a run of events of the network.

@@ -1,13 +1,14 @@
 // The command `twin`: whether a run with a fault and a run without it look alike.
 ghost use Rattle.std.specs.Prelude.{◌≡◌, ◌<◌, ◌≤◌, ℕ, List, [], length, IfOk, refl};
 ghost use Rattle.des_base.specs.declared.TheConstants.{MOST_STEPS};
-ghost use Rattle.diagnose_cli.specs.declared.command.Single.TheVariants.{Twin as TwinCalled};
+ghost use Rattle.diagnose_cli.specs.Commands.{twin};
 ghost use Rattle.diagnose_cli.specs.TwinReplies.{MayTest, SaysTwin, kind_of_twin, reply_of_twin};
 ghost use Rattle.proof_ledger.specs.Book.{BookEntry};
 ghost use Rattle.report.specs.Replies.{TwinEventsKnown};
 ghost use Rattle.twin_test.specs.Tested.{IsTested, LeavesTwins};
 
 use crate::answering::Answering;
+use crate::command::{number_of, steps_of};
 use des_base::{EventId, Memory, WordList};
 use des_net::Network;
 use endings::{Kind, Reply, Stop};
@@ -35,7 +36,28 @@ pub struct TwinCommand {
 impl Answering for TwinCommand {
     type Files = Network;
 
-    ghost command = { λ s. TwinCalled s.steps s.after s.budget };
+    ghost named = { twin };
+
+    ghost listed = { λ words. refl };
+
+    ghost word = { λ s. s };
+
+    ghost fits = { λ s. (s.steps ≤ MOST_STEPS) × (s.after ≤ MOST_STEPS) };
+
+    fn word_count() -> usize {
+        6
+    }
+
+    fn read(words: &WordList) -> Option<TwinCommand> {
+        let steps = steps_of(words.word(3))?;
+        let after = steps_of(words.word(4))?;
+        let budget = number_of(words.word(5))?;
+        Some(TwinCommand {
+            steps,
+            after,
+            budget,
+        })
+    }
 
     fn answer(
         &self,
@@ -54,7 +76,9 @@ impl Answering for TwinCommand {
         Ok(reply_about(alloc, files, fault, *self, book)?)
     }
 
-    ghost has_files = { λ s. refl };
+    ghost has_files = { λ w. refl };
+
+    ghost has_words = { refl };
 }
 
 // The reply to a twin question that is not too large.

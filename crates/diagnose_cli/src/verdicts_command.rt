@@ -2,18 +2,19 @@
 ghost use Rattle.std.specs.Prelude.{◌≡◌, ◌<◌, ◌≤◌, ⊤, ℕ, List, [], length, Some};
 ghost use Rattle.des_base.specs.Outside.{Rose};
 ghost use Rattle.des_base.specs.declared.TheConstants.{MOST_STEPS};
-ghost use Rattle.diagnose_cli.specs.Commands.{command_of};
+ghost use Rattle.diagnose_cli.specs.Commands.{verdicts};
+ghost use Rattle.diagnose_cli.specs.Tasks.{AreWords};
 ghost use Rattle.diagnose_cli.specs.Due.{Due, EndsBySize, HasNotBegun, StopsEmpty};
 ghost use Rattle.endings.specs.Files.{loads};
 ghost use Rattle.endings.specs.Puts.{Speaks};
-ghost use Rattle.diagnose_cli.specs.Rows.{AreTold, Leaves};
+ghost use Rattle.diagnose_cli.specs.Rows.{LeftBy};
 ghost use Rattle.diagnose_cli.specs.Run.{SaysStop};
 ghost use Rattle.diagnose_cli.specs.VerdictReplies.{IsVerdicts, status_of_told};
 ghost use Rattle.replay.specs.QuestionSize.{question_size};
 ghost use Rattle.telling.specs.Telling.{RisesExactlyIf};
 ghost use Rattle.verdict_telling.specs.Left.{LeavesVerdicts};
 
-use crate::command::{Command, Limits};
+use crate::command::Limits;
 use crate::reading::Reading;
 use des_base::{Shelf, Sink, WordList};
 use endings::{Stop, put_once};
@@ -35,13 +36,12 @@ pub fn verdicts_command<F: Shelf, S: Sink>(
     out: &mut S,
     book: &mut Ledger,
 ) -> u8
-    requires called { command_of words.now ≡ Some (Command.Verdicts limits.steps limits.budget) }
-    requires words { 2 < length words.now }
+    requires called { AreWords verdicts limits words.now }
     requires steps { limits.steps ≤ MOST_STEPS }
     requires empty { book.old.entries ≡ [] }
     ensures speaks { Speaks (StopsEmpty (Due (loads F.held F.faults shelf.old shelf.new) words.now book.new.entries) book.new.entries) (HasNotBegun words.now book.new.entries) (S.taken out.old) (S.taken out.new) (Rose (S.faults out.old) (S.faults out.new)) result }
     ensures stopped { SaysStop result → book.new ≡ book.old }
-    ensures left { (texts : List (List ℕ)) → AreTold (F.held shelf.old) words.now 1 texts → Leaves (Command.Verdicts limits.steps limits.budget) words.now texts book.new.entries }
+    ensures left { LeftBy (F.held shelf.old) words.now book.new.entries }
     ensures failures { RisesExactlyIf (result ≡ 4) (S.failures out.old) (S.failures out.new) }
 {
     match Case::fetch(alloc, words, shelf) {

@@ -5,25 +5,26 @@ use Rattle.endings.specs.declared.stop.Stop.TheVariants.{Large}
 use Rattle.least_faults.specs.declared.TheConstants.{MOST_SIZE}
 use Rattle.proof_ledger.specs.Book.{BookEntry}
 use Rattle.replay.specs.QuestionSize.{question_size}
-use Rattle.diagnose_cli.specs.declared.command.Command.TheVariants.{One}
-use Rattle.diagnose_cli.specs.declared.command.Single.TheVariants.{Ask}
+use Rattle.diagnose_cli.specs.Commands.{asking}
 use Rattle.diagnose_cli.specs.Questions.{AnswersTo}
 use Rattle.diagnose_cli.specs.Rows.{Leaves}
+use Rattle.diagnose_cli.specs.Tasks.{told_once}
 use Rattle.diagnose_cli.proofs.Left.{empty_left}
 use Rattle.diagnose_cli.proofs.Limits.{ends_large, ends_said}
 use Rattle.diagnose_cli.proofs.Orders.{memory_free}
-use Rattle.diagnose_cli.proofs.Requested.{asked_for, closes_asked, left_asked}
+use Rattle.diagnose_cli.proofs.Requested.{closes_asked, left_asked}
 use Rattle.diagnose_cli.proofs.asking.QuestionAnswering.answer.Goals as goal
 
 pub returns-then-size-gt-MOST_SIZE-clause-closes : goal.returns-then-size-gt-MOST_SIZE-clause-closes
 returns-then-size-gt-MOST_SIZE-clause-closes g c texts read _ =
     let n = c.args.self.now.steps in
     let question = g.Q.Replying.question in
-    let word = g.Q.Replying.word c.args.self.now.inquiry in
+    let last = g.Q.Replying.word c.args.self.now.inquiry in
     let book = c.args.book.now.entries in
+    let case = c.args.files.now in
     let e : Ending = Err (Large c.question_size-size.result) in
-    closes_asked n c.args._words.now book question word (asked_for g.Q.Replying.question c.args._words.now g.Q.Replying.listed (g.Q.Replying.word c.args.self.now.inquiry) c.requires.asks) texts c.args.files.now.net c.args.files.now.log read e
-    (ends_large _ c.question_size-size.result (IsOne (AnswersTo question word c.args.files.now.net c.args.files.now.log n book)) c.question_size-size.ensures.size (omega (arith, c.if-size-gt-MOST_SIZE.true)))
+    closes_asked question n last c.args._words.now book texts case.net case.log read e
+    (ends_large _ c.question_size-size.result (IsOne (AnswersTo question last case.net case.log n book)) c.question_size-size.ensures.size (omega (arith, c.if-size-gt-MOST_SIZE.true)))
 
 pub returns-in_err-ask_by-clause-closes : goal.returns-in_err-ask_by-clause-closes
 returns-in_err-ask_by-clause-closes g c texts read = memory_free _ _ c.from_residual.ensures.1
@@ -32,27 +33,30 @@ pub returns-clause-closes : goal.returns-clause-closes
 returns-clause-closes g c texts read _ =
     let n = c.args.self.now.steps in
     let question = g.Q.Replying.question in
-    let word = g.Q.Replying.word c.args.self.now.inquiry in
+    let last = g.Q.Replying.word c.args.self.now.inquiry in
     let book = c.ask_by.new.book.entries in
     let reply = c.in_ok-ask_by.field-0 in
     let case = c.args.files.now in
-    closes_asked n c.args._words.now book question word (asked_for g.Q.Replying.question c.args._words.now g.Q.Replying.listed (g.Q.Replying.word c.args.self.now.inquiry) c.requires.asks) texts case.net case.log read (once (Ok reply))
-    (ends_said (question_size case.net case.log n) c.question_size-size.result (AnswersTo question word case.net case.log n book) reply c.question_size-size.ensures.size (omega (arith, c.if-size-gt-MOST_SIZE.false)) c.in_ok-ask_by.ensures.replies)
+    closes_asked question n last c.args._words.now book texts case.net case.log read (once (Ok reply))
+    (ends_said (question_size case.net case.log n) c.question_size-size.result (AnswersTo question last case.net case.log n book) reply c.question_size-size.ensures.size (omega (arith, c.if-size-gt-MOST_SIZE.false)) c.in_ok-ask_by.ensures.replies)
 
 pub ask_by-requires-clause-limits : goal.ask_by-requires-clause-limits
 ask_by-requires-clause-limits g c = record {
-  steps = c.requires.bounds.0;
+  steps = c.requires.fits;
   size = subst (λ k. k ≤ MOST_SIZE) c.question_size-size.ensures.size (omega (arith, c.if-size-gt-MOST_SIZE.false));
 }
 
 pub returns-then-size-gt-MOST_SIZE-clause-left : goal.returns-then-size-gt-MOST_SIZE-clause-left
 returns-then-size-gt-MOST_SIZE-clause-left g c texts read =
-    subst (λ (book : List BookEntry). Leaves (One (Ask c.args.self.now.steps)) c.args._words.now texts book) (sym c.requires.empty) (empty_left (One (Ask c.args.self.now.steps)) c.args._words.now texts)
+    let t = told_once ((asking g.Q.Replying.question).task (c.args.self.now.steps, g.Q.Replying.word c.args.self.now.inquiry)) in
+    subst (λ (book : List BookEntry). Leaves t c.args._words.now texts book) (sym c.requires.empty) (empty_left t c.args._words.now texts)
 
 pub returns-in_err-ask_by-clause-left : goal.returns-in_err-ask_by-clause-left
 returns-in_err-ask_by-clause-left g c texts read =
-    left_asked c.args.self.now.steps c.args._words.now c.ask_by.new.book.entries g.Q.Replying.question (g.Q.Replying.word c.args.self.now.inquiry) (asked_for g.Q.Replying.question c.args._words.now g.Q.Replying.listed (g.Q.Replying.word c.args.self.now.inquiry) c.requires.asks) texts c.args.files.now.net c.args.files.now.log read c.ask_by.ensures.left
+    let case = c.args.files.now in
+    left_asked g.Q.Replying.question c.args.self.now.steps (g.Q.Replying.word c.args.self.now.inquiry) c.args._words.now c.ask_by.new.book.entries texts case.net case.log read c.ask_by.ensures.left
 
 pub returns-clause-left : goal.returns-clause-left
 returns-clause-left g c texts read =
-    left_asked c.args.self.now.steps c.args._words.now c.ask_by.new.book.entries g.Q.Replying.question (g.Q.Replying.word c.args.self.now.inquiry) (asked_for g.Q.Replying.question c.args._words.now g.Q.Replying.listed (g.Q.Replying.word c.args.self.now.inquiry) c.requires.asks) texts c.args.files.now.net c.args.files.now.log read c.ask_by.ensures.left
+    let case = c.args.files.now in
+    left_asked g.Q.Replying.question c.args.self.now.steps (g.Q.Replying.word c.args.self.now.inquiry) c.args._words.now c.ask_by.new.book.entries texts case.net case.log read c.ask_by.ensures.left

@@ -2,7 +2,7 @@
 use Rattle.std.proofs.Common.{[], ◌∷◌, ◌≡◌, ◌≤◌, ◌<◌, ℕ, List, Option, Err, Ok, sym, subst, arith}
 use Rattle.cost_least.specs.Costs.{cost_size}
 use Rattle.des_net.specs.Network.{Net}
-use Rattle.endings.specs.Transcripts.{IsOne, once}
+use Rattle.endings.specs.Transcripts.{once}
 use Rattle.endings.specs.declared.stop.Stop.TheVariants.{Large}
 use Rattle.event_costs.specs.CostText.{IsTableOf}
 use Rattle.event_costs.specs.Prices.{cost_at}
@@ -11,15 +11,13 @@ use Rattle.log_csv.specs.LogText.{log_of}
 use Rattle.log_order.specs.Log.{Log}
 use Rattle.model_text.specs.ModelFaults.{network_of}
 use Rattle.proof_ledger.specs.Book.{BookEntry}
-use Rattle.diagnose_cli.specs.declared.command.Command.TheVariants.{One}
-use Rattle.diagnose_cli.specs.declared.command.Single.TheVariants.{Cheapest}
 use Rattle.diagnose_cli.specs.CheapReplies.{SaysCheap}
-use Rattle.diagnose_cli.specs.Due.{Closes}
+use Rattle.diagnose_cli.specs.Tasks.{told_once}
+use Rattle.diagnose_cli.specs.Due.{Closes, Says}
 use Rattle.diagnose_cli.specs.Rows.{Leaves}
-use Rattle.diagnose_cli.specs.Tasks.{MayReply}
-use Rattle.diagnose_cli.proofs.CheapAnswers.{may_price, prices_left}
+use Rattle.diagnose_cli.proofs.CheapAnswers.{may_price, priced, prices_left}
 use Rattle.diagnose_cli.proofs.Left.{empty_left}
-use Rattle.diagnose_cli.proofs.Limits.{ends_large, ends_said}
+use Rattle.diagnose_cli.proofs.Limits.{ends_large, ends_within}
 use Rattle.diagnose_cli.proofs.Orders.{memory_free}
 use Rattle.diagnose_cli.proofs.ReadOver.{over_third}
 use Rattle.diagnose_cli.proofs.cheapest_command.CheapestCommandAnswering.answer.Goals as goal
@@ -30,8 +28,8 @@ returns-then-size-gt-MOST_SIZE-clause-closes c texts read _ =
     let budget = c.args.self.now.limits.budget in
     let book = c.args.book.now.entries in
     let k = c.cost_size-size.result in
-    over_third (λ ts. Closes (One (Cheapest n budget)) c.args._words.now book ts (Err (Large k))) texts (λ (net : Net) (log : Log). (k ≡ cost_size net log n) × (MOST_SIZE < k))
-    (λ (net : Net) prices (table : List (Option ℕ)). IsTableOf net prices table) c.args.files.now.table (λ text alarms prices of h. ends_large (cost_size (network_of text) (log_of alarms) n) k (IsOne (MayReply (Cheapest n budget) c.args._words.now book (text ∷ alarms ∷ prices ∷ []))) h.0 h.1) c.args.files.now.case read
+    over_third (λ ts. Closes (told_once (priced n budget)) c.args._words.now book ts (Err (Large k))) texts (λ (net : Net) (log : Log). (k ≡ cost_size net log n) × (MOST_SIZE < k))
+    (λ (net : Net) prices (table : List (Option ℕ)). IsTableOf net prices table) c.args.files.now.table (λ text alarms prices of h. ends_large (cost_size (network_of text) (log_of alarms) n) k (Says (told_once (priced n budget)) c.args._words.now book (text ∷ alarms ∷ prices ∷ [])) h.0 h.1) c.args.files.now.case read
     (c.cost_size-size.ensures.size, omega (arith, c.if-size-gt-MOST_SIZE.true))
 
 pub returns-in_err-reply_to_costs-clause-closes : goal.returns-in_err-reply_to_costs-clause-closes
@@ -45,21 +43,21 @@ returns-clause-closes c texts read _ =
     let book = c.reply_to_costs.new.book.entries in
     let reply = c.in_ok-reply_to_costs.field-0 in
     let table = c.args.files.now.table in
-    over_third (λ ts. Closes (One (Cheapest n budget)) c.args._words.now book ts (once (Ok reply))) texts
+    over_third (λ ts. Closes (told_once (priced n budget)) c.args._words.now book ts (once (Ok reply))) texts
     (λ (net : Net) (log : Log). (k ≡ cost_size net log n) × (k ≤ MOST_SIZE) × SaysCheap net (cost_at table) log n budget book reply) (λ (net : Net) prices (t : List (Option ℕ)). IsTableOf net prices t) table
     (λ text alarms prices of h.
-    ends_said (cost_size (network_of text) (log_of alarms) n) k (MayReply (Cheapest n budget) c.args._words.now book (text ∷ alarms ∷ prices ∷ [])) reply h.0 h.1 (may_price n budget c.args._words.now book text alarms prices table reply of h.2))
+    ends_within (cost_size (network_of text) (log_of alarms) n) k (Says (told_once (priced n budget)) c.args._words.now book (text ∷ alarms ∷ prices ∷ [])) (once (Ok reply)) h.0 h.1 (may_price n budget c.args._words.now book text alarms prices table reply of h.2))
     c.args.files.now.case read (c.cost_size-size.ensures.size, omega (arith, c.if-size-gt-MOST_SIZE.false), c.in_ok-reply_to_costs.ensures.says)
 
 pub reply_to_costs-requires-clause-within : goal.reply_to_costs-requires-clause-within
 reply_to_costs-requires-clause-within c = record {
-  steps = c.requires.bounds.0;
+  steps = c.requires.fits;
   size = subst (λ k. k ≤ MOST_SIZE) c.cost_size-size.ensures.size (omega (arith, c.if-size-gt-MOST_SIZE.false));
 }
 
 pub returns-then-size-gt-MOST_SIZE-clause-left : goal.returns-then-size-gt-MOST_SIZE-clause-left
 returns-then-size-gt-MOST_SIZE-clause-left c texts read =
-    let command = One (Cheapest c.args.self.now.limits.steps c.args.self.now.limits.budget) in
+    let command = told_once (priced c.args.self.now.limits.steps c.args.self.now.limits.budget) in
     subst (λ (book : List BookEntry). Leaves command c.args._words.now texts book) (sym c.requires.empty) (empty_left command c.args._words.now texts)
 
 pub returns-in_err-reply_to_costs-clause-left : goal.returns-in_err-reply_to_costs-clause-left

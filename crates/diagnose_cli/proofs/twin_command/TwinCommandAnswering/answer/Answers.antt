@@ -6,8 +6,8 @@ use Rattle.endings.specs.declared.stop.Stop.TheVariants.{Large}
 use Rattle.event_costs.specs.CostText.{fault_event_of}
 use Rattle.proof_ledger.specs.Book.{BookEntry}
 use Rattle.twin_test.specs.Twins.{twin_size}
-use Rattle.diagnose_cli.specs.declared.command.Command.TheVariants.{One}
-use Rattle.diagnose_cli.specs.declared.command.Single.TheVariants.{Twin}
+use Rattle.diagnose_cli.specs.Commands.{twin}
+use Rattle.diagnose_cli.specs.Tasks.{told_once}
 use Rattle.diagnose_cli.specs.Rows.{Leaves}
 use Rattle.diagnose_cli.specs.TwinReplies.{SaysOfWord}
 use Rattle.diagnose_cli.proofs.Left.{empty_left}
@@ -44,12 +44,12 @@ returns-clause-closes c texts read _ =
 
 pub returns-in_default-clause-left : goal.returns-in_default-clause-left
 returns-in_default-clause-left c texts read =
-    let command = One (Twin c.args.self.now.steps c.args.self.now.after c.args.self.now.budget) in
+    let command = told_once (twin.task c.args.self.now) in
     subst (λ (book : List BookEntry). Leaves command c.args.words.now texts book) (sym c.requires.empty) (empty_left command c.args.words.now texts)
 
 pub returns-then-size-gt-MOST_SIZE-clause-left : goal.returns-then-size-gt-MOST_SIZE-clause-left
 returns-then-size-gt-MOST_SIZE-clause-left c texts read =
-    let command = One (Twin c.args.self.now.steps c.args.self.now.after c.args.self.now.budget) in
+    let command = told_once (twin.task c.args.self.now) in
     subst (λ (book : List BookEntry). Leaves command c.args.words.now texts book) (sym c.requires.empty) (empty_left command c.args.words.now texts)
 
 pub returns-in_err-reply_about-clause-left : goal.returns-in_err-reply_about-clause-left

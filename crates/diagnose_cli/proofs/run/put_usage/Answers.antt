@@ -1,0 +1,24 @@
+-- That they call no command is due.
+use Rattle.std.proofs.Common.{Err}
+use Rattle.endings.specs.Files.{loads}
+use Rattle.endings.specs.declared.stop.Stop.TheVariants.{Usage}
+use Rattle.endings.proofs.Once.{speaks_once}
+use Rattle.diagnose_cli.specs.Due.{Due, HasNotBegun, StopsEmpty}
+use Rattle.diagnose_cli.proofs.Dues.{nothing_called, usage_is_due, usage_left}
+use Rattle.diagnose_cli.proofs.Once.{done}
+use Rattle.diagnose_cli.proofs.SessionAnswers.{stops_empty}
+use Rattle.diagnose_cli.proofs.run.put_usage.Goals as goal
+
+pub returns-clause-does : goal.returns-clause-does
+returns-clause-does g c =
+    let l = loads g.F.Shelf.held g.F.Shelf.faults c.args._shelf.now c.args._shelf.now in
+    let words = c.args._words.now in
+    let book = c.args._book.now.entries in
+    let due = usage_is_due l words book (nothing_called words c.requires.none) in
+    done l words (g.S.Sink.taken c.args.out.now) (g.S.Sink.taken c.put_once.new.out) book c.put_once.result _
+    (speaks_once (StopsEmpty (Due l words book) book) (HasNotBegun words book) due.begun (Err Usage) _ _ _ _ (λ never. stops_empty (Due l words book) book (Err Usage) c.requires.empty (due.due never)) c.put_once.ensures.puts tt)
+
+pub returns-clause-left : goal.returns-clause-left
+returns-clause-left g c =
+    let l = loads g.F.Shelf.held g.F.Shelf.faults c.args._shelf.now c.args._shelf.now in
+    usage_left l c.args._words.now c.args._book.now.entries (nothing_called c.args._words.now c.requires.none)
