@@ -1,16 +1,18 @@
-"""Times `diagnose` on plants that the program or these scripts make, and prints a table: family, plant, steps, seconds of the processor, memory, clauses that are learnt, first line of
-the reply with a budget of 500, and with one of a million.
+"""Times `diagnose` on plants that the program or these scripts make, beside an earlier program and CaDiCaL's library, and prints a table of questions and one of means by family.
 
-    python3 bench/diagnose.py PROGRAM [FAMILY..]
+    python3 bench/diagnose.py PROGRAM [--earlier EARLIER] [FAMILY..]
 
-PROGRAM is the program as `rt run` builds it, crates/diagnose_cli/out/diagnose_cli. With families it asks only the questions of these (`torus`, `"equal alarms"`). Where MiniSat is installed, it is timed on the
-same formula with one fault fewer than are needed, as `cnf` prints it, which it refutes; and where CaDiCaL's library is, and a C++ compiler, it is timed on the
-formulas for all bounds up to the answer, one after another (`ascending.cpp`), unless more than 30 faults are needed. It's no part of the gate.
+PROGRAM is the program as `rt run` builds it, crates/diagnose_cli/out/diagnose_cli, and EARLIER one of another commit. With families it asks only the questions of these (`torus`, `"equal alarms"`).
+Where CaDiCaL's library is installed (Debian: libcadical-dev), and a C++ compiler, it is timed on the formulas for all bounds up to the answer, one after another (`ascending.cpp`), unless more than 30 faults are needed.
+Who has no answer after 20 seconds of the processor is late. It's no part of the gate, and takes some twenty minutes where nothing else is done.
 
-How many clauses are learnt depends neither on the machine nor on what else it does. It is the least budget with which there is an answer, looked for between budgets to one part in 16, where the answer took at most 2 seconds.
+A question's row has the seconds of the processor for the whole `diagnose` (for the library those of the search alone), MiB at the peak (17 or less say nothing), the clauses that are learnt, the faults of the run that is found first, and the answer. How many clauses are learnt
+depends neither on the machine nor on what else it does. It is the least budget with which there is an answer, looked for between budgets to one part in 16, where the answer took at most half a second.
+
+The means are geometric, of ratios: of seconds where one of the two took at least 0.03, and who is late counts with the limit; of MiB where one of the two took at least 20. Faults of first runs are sums over the questions whose answer is known. Over all families means are those of the families' means.
 
 The families:
-- `empty log`: nothing was seen, of 20 and of 100 components, within up to 1,000 steps. A run without an event explains it.
+- `empty log`: nothing was seen, of 20 to 100 components, within up to 1,000 steps: with 45 that is nearly as large as a question may be. A run without an event explains it.
 - `torus`, `telecom`, `protection`, `adder`: plants in the manner of the literature (`plants.py`). All but the adder have logs of simulated runs, in their whole order, in that of each component, or in blocks, within
   as many steps as the run needs, 1.5 times as many, and twice as many. So many faults as the run has are an upper bound of the answer.
 - `units`: a bus and Z units, as the program's `generate` makes it. Each unit jams, which is a fault that nobody sees, then trips at the bus, and is fixed. Some units trip, one after the other, and the log has an alarm for each.
@@ -24,40 +26,42 @@ The families:
 
 A single question may vary severalfold where anything changes, so only means over families, or over several growths of activities, tell anything.
 
-On 30 November 2026, by a replica of the search outside the program. It learns as many clauses as the program: 91 of the questions were asked of the program too, with a budget of as many clauses, which was enough, and of one less, which wasn't. "Before" is the search of commit 9ca9733, which
-decided states before events and didn't settle the last steps of one device first. 129 questions of these families and of lines of machines, partly with other logs than those that the script draws, were asked once each with at most 6 seconds of the processor, other work on the machine.
-Clauses (and one more) are geometric means over the questions that both answered. Faults are sums over the questions for which both found a run and the answer is known. Seconds are those of the search alone, as geometric means of ratios over the questions for which one of the two took at
-least 0.03; CaDiCaL's library (1.5.3) was asked all bounds on the same formulas.
+On 1 December 2026, on four shared processors with some twenty other programs at work, question by question and not in one run of this script, for which the machine had no room: the proved program, once each, and CaDiCaL's library (1.5.3), asked by a replica of the search with the same formulas. Seven dear questions of telecom networks, protections and equal
+alarms were asked of the same program compiled without its proof, with 25 seconds each at most. Nine grids with 6 to 10 faults weren't asked, and of empty logs one of 20 components stands for that of 45. "9ca9733" is a build of that commit without its proof, which decides states before events and settles neither the last steps nor the last devices first. It was asked
+the cheap questions, with 6 seconds each at most: in parentheses stands how many, if less than all.
 
-| Family | Questions | Clauses: before | now | Faults of first runs: before | now | least | Seconds: now to before | now to CaDiCaL's library | the worst of these | Not answered: before, now, CaDiCaL's library |
-|---|---|---|---|---|---|---|---|---|---|---|
-| empty log | 4 | 75 | 1 | 207 | 0 | 0 | 0.15 | 0.39 | 0.5 | 2, 0, 0 |
-| equal alarms | 4 | 8341 | 2307 | 18 | 18 | 18 | 0.17 | 0.50 | 0.6 | 2, 1, 1 |
-| grids | 12 | 2485 | 2902 | 230 | 93 | 62 | 1.15 | 1.07 | 1.6 | 1, 1, 0 |
-| lamps | 5 | 343 | 343 | 0 | 0 | 0 | 0.84 | 0.16 | 0.3 | 0, 0, 0 |
-| lines of machines | 10 | 172 | 111 | 131 | 58 | 8 | 0.39 | 0.28 | 0.6 | 2, 3, 1 |
-| meshes | 8 | 184 | 151 | 545 | 68 | 40 | 0.66 | 0.48 | 1.0 | 0, 0, 0 |
-| protection | 17 | 944 | 933 | 111 | 121 | 50 | 1.04 | 1.13 | 2.5 | 1, 1, 0 |
-| adders | 6 | 728 | 793 | 150 | 36 | 7 | 1.48 | 0.50 | 1.3 | 0, 0, 0 |
-| stations | 5 | 3958 | 4254 | 17 | 16 | 15 | 1.31 | 2.07 | 4.4 | 0, 0, 0 |
-| telecom | 22 | 1197 | 1124 | 824 | 173 | 104 | 0.89 | 0.60 | 1.4 | 0, 0, 0 |
-| torus, blocks | 6 | 754 | 620 | 109 | 38 | 12 | 1.06 | 0.68 | 1.7 | 0, 0, 0 |
-| torus, order of each component | 8 | 714 | 698 | 137 | 50 | 18 | 0.90 | 1.54 | 3.0 | 1, 1, 0 |
-| torus, whole order | 9 | 877 | 805 | 146 | 48 | 18 | 1.39 | 0.53 | 2.0 | 1, 1, 1 |
-| units | 9 | 76 | 76 | 372 | 87 | 87 | 0.91 | 0.30 | 0.4 | 0, 0, 0 |
-| valves | 4 | 3749 | 4863 | 24 | 17 | 17 | 1.08 | 1.00 | 1.5 | 0, 0, 0 |
+| Family | Questions | Seconds to CaDiCaL's library's | the worst | to 9ca9733 | Faults of first runs | of 9ca9733 | least | Late: the program, CaDiCaL's library |
+|---|---|---|---|---|---|---|---|---|
+| empty log | 4 | 0.25 | 0.3 | 0.07 (1) | 0 | 0 | 0 (1) | 0, 0 |
+| torus, whole order | 6 | 0.73 | 0.9 | 0.66 (2) | 26 | 68 | 8 (4) | 0, 0 |
+| torus, order of each component | 6 | 0.76 | 1.6 | 1.14 (3) | 36 | 62 | 10 (5) | 0, 0 |
+| torus, order of blocks | 6 | 0.84 | 2.7 | 0.96 (3) | 40 | 64 | 10 (5) | 0, 0 |
+| telecom | 12 | 0.92 | 2.3 | 0.82 (4) | 42 | 123 | 32 (4) | 0, 0 |
+| protection | 14 | 1.24 | 5.9 | 0.88 (6) | 55 | 53 | 23 (9) | 1, 0 |
+| adder | 5 | 0.79 | 1.3 | 0.91 (4) | 27 | 110 | 5 (5) | 0, 0 |
+| units | 13 | 0.38 | 0.6 | 0.86 (4) | 112 | 462 | 112 (10) | 0, 0 |
+| valves | 3 | 0.16 | 0.2 | 0.22 (3) | 13 | 18 | 13 (3) | 0, 0 |
+| stations | 4 | 0.69 | 1.0 | 0.43 (3) | 9 | 10 | 9 (3) | 0, 0 |
+| meshes | 3 | 0.61 | 1.0 | 0.45 (2) | 12 | 98 | 12 (2) | 0, 0 |
+| equal alarms | 4 | 0.47 | 0.7 | 0.20 (2) | 11 | 11 | 11 (2) | 1, 1 |
+| lamps | 5 | 0.14 | 0.2 | 0.86 (1) | 0 | 0 | 0 (2) | 0, 0 |
+| grids | 13 | 1.15 | 1.8 | 1.07 (4) | 44 | 149 | 25 (9) | 0, 0 |
+| all | 98 | 0.54 |  | 0.54 | 427 | 1228 | 270 (64) | 2, 1 |
 
-Over the 15 families, in geometric means of theirs: 0.67 of the clauses before (0.97 without the empty log and equal alarms), 0.76 of the seconds, and 0.60 of those of CaDiCaL's library, of which stations take twice as long and the torus in the order of each component 1.5 times (0.98 by two growths of activities each, over nine
-questions about four logs: bench/NOTES.md). The first run that is found has 823 faults in all, where it had 3,021 and 456 are needed.
+So the program takes 0.54 of the library's seconds over all families, 0.5 to 0.7 of them on six and seven equal alarms, and in the mean of a family at most 1.24 times as long. The worst are the line of a protection within 1.5 and 2 times the steps (5.9, and at least 4.1) and a torus in blocks (2.7). First runs have 1.6 times the least number of faults in all (4.5 times on 9ca9733), and in the
+geometric mean over 61 questions that need a fault 1.9 times: 2.8 to 4.5 times on toruses and adders, 1.0 to 2.0 elsewhere. On 65 questions, with up to 33 MiB, it takes 0.98 of the memory of 9ca9733, and on none more. An empty log of 45 components within 1,000 steps, nearly as large as a question may be, is explained with a budget of 0 in 1.3 seconds, with 375 MiB: by a profile
+nearly all of this is spent on the writing of the formula, and 2 % on watches.
 
 What stays dear are more steps than a log needs. With 1.5 times and twice as many steps it takes so many times as many clauses (and twenty more, in geometric means over the questions that were answered): units 2.2 and 2.6, grids 2.8, protection 5.6 and 12, telecom 9.9 and 35, torus 24 and 48 in
 the whole order, 7 and 46 in that of each component, 17 and 107 in blocks; meshes 0.9. bench/NOTES.md says what was tried against that.
 """
+import math
 import os
 import shutil
 import subprocess
 import sys
 import tempfile
+from collections import namedtuple
 
 from grids import question
 from measure import spent, timed
@@ -69,11 +73,23 @@ LAMPS = [50, 100, 200, 400]
 MOST_ASCENDED = 30
 START = 7
 BUDGET = 1_000_000
-SECONDS = 200
+# Who is asked is ended after so many seconds of the processor.
+LIMIT = 20
 # Clauses are counted where the answer took at most so many seconds, since that asks the question some ten times more.
-COUNTED = 2
-# With so many clauses it is seen how near both numbers are that come with `UNDECIDED`.
-EARLY = 500
+COUNTED = 0.5
+# The least budget that is tried, but for none.
+FEWEST = 16
+# Ratios of seconds are taken where one of the two took at least so many. The library's may be too few to be told from none.
+TIMED, LEAST = 0.03, 0.001
+# And ratios of memory where one of the two took at least so many MiB: a child's peak begins with that of this script.
+TOLD = 20
+# What a program says of a question: `mib` at the peak, `first` the faults of the run that it finds first.
+Told = namedtuple("Told", ["seconds", "mib", "answer", "clauses", "first"])
+# What is said of a question by the program, by the earlier one, and by the library: its seconds, and whether it answered.
+Row = namedtuple("Row", ["family", "name", "steps", "now", "earlier", "library"])
+# The heads of the means.
+MEANS = ["Family", "Questions", "Seconds to CaDiCaL's library's", "the worst", "to the earlier program's", "MiB to the earlier program's", "the worst", "Clauses", "earlier"]
+MEANS += ["Faults of first runs", "earlier", "least", "Not answered: now, earlier, CaDiCaL's library"]
 NAMES = {"whole": "whole order", "component": "order of each component", "blocks": "order of blocks"}
 
 
@@ -137,7 +153,8 @@ def simulated():
     """The questions about plants from the literature, by their families."""
     for steps in [20, 50, 100]:
         yield "empty log", "torus of 100", steps, torus(10, 10), []
-    yield "empty log", "torus of 20", 1000, torus(4, 5), []
+    for columns in [4, 9]:
+        yield "empty log", f"torus of {5 * columns}", 1000, torus(5, columns), []
     for order in ["whole", "component", "blocks"]:
         for it in slackened("torus of 20, 20 alarms", torus(4, 5), 20, 2, [order], [1, 1.5, 2]):
             yield f"torus, {NAMES[order]}", *it
@@ -188,16 +205,66 @@ def written(folder, model, log):
     return files
 
 
-def refuted(program, solver, files, steps, faults):
-    """Seconds of another solver on the formula with one fault fewer."""
-    if faults == 0:
-        return ""
-    _, _, _, formula = timed(program, "cnf", *files, str(steps), str(faults - 1))
-    with tempfile.NamedTemporaryFile("w", suffix=".cnf") as f:
-        f.write(formula + "\n")
-        f.flush()
-        seconds, _, status, _ = spent(solver, f.name)
-        return f"{seconds:.2f}" if status == 20 else f"status {status}"
+def asked(program, files, steps, budget):
+    """Seconds, MiB and the first line of the reply. The line is empty where the program is ended at the limit."""
+    words = ["sh", "-c", f'ulimit -t {LIMIT}; exec "$@"', "sh", program, "diagnose", *files, str(steps), str(budget)]
+    seconds, memory, status, out = spent(*words)
+    return seconds, memory, out.split("\n")[0] if status >= 0 else ""
+
+
+def replies(program, files, steps):
+    """The first line of the reply to a budget. Each budget is asked once."""
+    kept = {}
+
+    def reply(budget):
+        if budget not in kept:
+            kept[budget] = asked(program, files, steps, budget)[2]
+        return kept[budget]
+    return reply
+
+
+def is_answer(line):
+    return line != "" and not line.startswith("UNDECIDED")
+
+
+def faults_of(line):
+    """The faults of the run that comes with a reply."""
+    last = line.split()[-1:]
+    return int(last[0]) if last and last[0].isdigit() else None
+
+
+def first_run(reply):
+    """How many faults the run has that is found first: it comes with each `UNDECIDED` from then on."""
+    few, enough = 0, FEWEST
+    while faults_of(reply(enough)) is None:
+        if enough > BUDGET or not reply(enough).startswith("UNDECIDED"):
+            return None
+        few, enough = enough, 2 * enough
+    while is_answer(reply(enough)) and enough - few > 1:
+        middle = (few + enough) // 2
+        if faults_of(reply(middle)) is None:
+            few = middle
+        else:
+            enough = middle
+    return faults_of(reply(enough))
+
+
+def learnt(reply):
+    """How many clauses `diagnose` learns to its answer, to one part in 16: the least budget with which it answers, between those that were tried."""
+    if is_answer(reply(0)):
+        return 0
+    few, enough = 0, FEWEST
+    while not is_answer(reply(enough)):
+        if enough > BUDGET:
+            return None
+        few, enough = enough, 2 * enough
+    while enough - few > max(1, enough // 16):
+        middle = (few + enough) // 2
+        if is_answer(reply(middle)):
+            enough = middle
+        else:
+            few = middle
+    return enough
 
 
 def library(folder):
@@ -211,64 +278,140 @@ def library(folder):
 
 
 def ascended(program, path, files, steps, faults):
-    """Seconds of the library on the formulas for `any` and for all bounds up to the answer."""
-    if faults > MOST_ASCENDED:
-        return ""
+    """Seconds of the library on the formulas for `any` and for all bounds up to so many faults, and whether it answers."""
     with tempfile.TemporaryDirectory() as room:
         formulas = []
         for bound in ["any"] + [str(bound) for bound in range(faults + 1)]:
             formulas.append(os.path.join(room, bound))
             with open(formulas[-1], "w", encoding="ascii") as f:
                 subprocess.run([program, "cnf", *files, str(steps), bound], stdout=f, check=True)
-        _, _, status, out = timed("timeout", str(SECONDS), path, *formulas)
-    return f"{float(out.split()[1]):.2f}" if status == 0 else f"status {status}"
+        _, _, status, out = timed(path, str(LIMIT), *formulas)
+    return float(out.split()[1]), status == 0
 
 
-def learnt(program, files, steps, most):
-    """How many clauses `diagnose` learns to its answer, to one part in 16: the least budget with which it answers, between those that were tried."""
-    def is_answered(budget):
-        return not spent(program, "diagnose", *files, str(steps), str(budget))[3].startswith("UNDECIDED")
-    if is_answered(0):
-        return 0
-    few, enough = 0, 16
-    while not is_answered(enough):
-        if enough > most:
-            return None
-        few, enough = enough, 2 * enough
-    while enough - few > max(1, enough // 16):
-        middle = (few + enough) // 2
-        if is_answered(middle):
-            enough = middle
-        else:
-            few = middle
-    return enough
+def told(program, files, steps):
+    """What one program says of a question. Where it answers soon it is timed a second time, and its clauses are counted."""
+    seconds, memory, line = asked(program, files, steps, BUDGET)
+    reply = replies(program, files, steps)
+    if seconds <= COUNTED:
+        seconds = min(seconds, asked(program, files, steps, BUDGET)[0])
+    return Told(seconds, memory, line, learnt(reply) if seconds <= COUNTED else None, first_run(reply))
 
 
-def row(program, solvers, files, family, name, steps):
-    """The cells of a question's row."""
-    minisat, cadical = solvers
-    seconds, memory, status, out = spent("timeout", str(SECONDS), program, "diagnose", *files, str(steps), str(BUDGET))
-    answer = out.split("\n")[0] if status != 124 else "none"
-    clauses = learnt(program, files, steps, BUDGET) if seconds <= COUNTED else None
-    early = spent(program, "diagnose", *files, str(steps), str(EARLY))[3].split("\n")[0]
-    cells = [family, name, str(steps), f"{seconds:.2f}", f"{memory:.0f}", "" if clauses is None else str(clauses), early, answer]
-    faults = int(answer.split()[1]) if answer.startswith("EXPLAINED") else 0
-    cells += [refuted(program, minisat, files, steps, faults)] * bool(minisat)
-    return cells + [ascended(program, cadical, files, steps, faults)] * bool(cadical)
+def rows(programs, cadical, folder, families):
+    """What is said of each question by the program, by the earlier one, if any, and by the library."""
+    for family, name, steps, model, log in questions(programs[0]):
+        if families and family.split(",")[0] not in families:
+            continue
+        files = written(folder, model, log)
+        each = [told(program, files, steps) for program in programs]
+        known = [faults_of(it.answer) if is_answer(it.answer) else it.first for it in each]
+        faults = min([it for it in known if it is not None], default=0)
+        third = ascended(programs[0], cadical, files, steps, faults) if cadical and faults <= MOST_ASCENDED else None
+        yield Row(family, name, steps, each[0], each[1] if each[1:] else None, third)
 
 
-def main(program, folder, *families):
-    solvers = minisat, cadical = shutil.which("minisat"), library(folder)
-    heads = ["Family", "Plant", "Steps", "Seconds", "MiB", "Clauses", f"After {EARLY} clauses", "Answer"]
-    heads += ["MiniSat, one fault fewer"] * bool(minisat) + ["CaDiCaL's library, all bounds"] * bool(cadical)
-    print("| " + " | ".join(heads) + " |")
-    print("|---" * len(heads) + "|")
-    for family, name, steps, model, log in questions(program):
-        if not families or family.split(",")[0] in families:
-            cells = row(program, solvers, written(folder, model, log), family, name, steps)
-            print("| " + " | ".join(cells) + " |", flush=True)
+def shown(value, form="{}"):
+    return "" if value is None else form.format(value)
+
+
+def cells(row):
+    """A question's row."""
+    both = [it for it in [row.now, row.earlier] if it]
+    seconds = [f"{it.seconds:.2f}" if is_answer(it.answer) else "late" for it in both]
+    seconds += [f"{row.library[0]:.2f}" if row.library[1] else "late"] if row.library else [""]
+    numbers = [f"{it.mib:.0f}" for it in both] + [shown(it.clauses) for it in both] + [shown(it.first) for it in both]
+    return [row.family, row.name, str(row.steps)] + seconds + numbers + [row.now.answer]
+
+
+def heads(has_earlier):
+    """The heads of the questions' rows."""
+    names = [["Seconds", "earlier"], ["MiB", "earlier"], ["Clauses", "earlier"], ["First run", "earlier"]]
+    both = [pair[:1 + has_earlier] for pair in names]
+    return ["Family", "Plant", "Steps"] + both[0] + ["CaDiCaL's library"] + sum(both[1:], []) + ["Answer"]
+
+
+def mean(values):
+    """The geometric mean."""
+    return math.exp(sum(map(math.log, values)) / len(values)) if values else None
+
+
+def compared(first, second):
+    """The ratio of the seconds of two that were asked: each has its seconds, and whether it answered. Who didn't answer took the limit, or longer."""
+    if not (first[1] or second[1]):
+        return None
+    taken = [seconds if is_answered else LIMIT for seconds, is_answered in [first, second]]
+    return taken[0] / max(taken[1], LEAST) if max(taken) >= TIMED else None
+
+
+def answered(it):
+    return it.seconds, is_answer(it.answer)
+
+
+def ratios(group):
+    """The ratios of a family's questions: seconds to the library's, seconds and MiB to the earlier program's."""
+    beside = [compared(answered(row.now), row.library) for row in group if row.library]
+    before = [compared(answered(row.now), answered(row.earlier)) for row in group if row.earlier]
+    both = [(row.now, row.earlier) for row in group if row.earlier and is_answer(row.now.answer) and is_answer(row.earlier.answer)]
+    memory = [now.mib / earlier.mib for now, earlier in both if max(now.mib, earlier.mib) >= TOLD]
+    return [[it for it in each if it is not None] for each in [beside, before, memory]]
+
+
+def counted(group):
+    """The clauses of a family, this and the earlier program's: geometric means over what both counted, of one more than each."""
+    pairs = [(row.now.clauses, row.earlier.clauses) for row in group if row.earlier]
+    pairs = [it for it in pairs if None not in it]
+    return [mean([1 + it[place] for it in pairs]) for place in range(2)]
+
+
+def firsts(group):
+    """For each question whose answer is known: the faults of the first run, of the earlier program's, and the least number."""
+    known = [row for row in group if row.now.answer.startswith("EXPLAINED") and row.now.first is not None]
+    both = [(row.now.first, row.earlier.first if row.earlier else None, faults_of(row.now.answer)) for row in known]
+    return [it for it in both if it[1] is not None or not group[0].earlier]
+
+
+def summed(triples):
+    """The sums of each column."""
+    return [None if triples and triples[0][place] is None else sum(it[place] for it in triples) for place in range(3)]
+
+
+def late(group):
+    """How many questions of a family weren't answered: by the program, by the earlier one, by the library."""
+    each = [[is_answer(row.now.answer) for row in group], [is_answer(row.earlier.answer) for row in group if row.earlier], [row.library[1] for row in group if row.library]]
+    return ", ".join(str(it.count(False)) for it in each)
+
+
+def summary(all_rows):
+    """Prints the means by family, and over all families."""
+    print("\n| " + " | ".join(MEANS) + " |\n" + "|---" * len(MEANS) + "|")
+    groups = {}
+    for row in all_rows:
+        groups.setdefault(row.family, []).append(row)
+    columns = [ratios(group) for group in groups.values()]
+    for (family, group), (beside, before, memory) in zip(groups.items(), columns):
+        numbers = [mean(beside), max(beside, default=None), mean(before), mean(memory), max(memory, default=None)]
+        line = [family, str(len(group))] + [shown(it, "{:.2f}") for it in numbers] + [shown(it, "{:.0f}") for it in counted(group)]
+        print("| " + " | ".join(line + [shown(it) for it in summed(firsts(group))] + [late(group)]) + " |")
+    over = [mean([mean(it[place]) for it in columns if it[place]]) for place in range(3)]
+    triples = [it for group in groups.values() for it in firsts(group)]
+    line = ["all", str(len(all_rows)), shown(over[0], "{:.2f}"), "", shown(over[1], "{:.2f}"), shown(over[2], "{:.2f}"), "", "", ""]
+    print("| " + " | ".join(line + [shown(it) for it in summed(triples)] + [late(all_rows)]) + " |")
+    of_some = mean([max(first, 1) / least for first, _, least in triples if least > 0])
+    print(f"\nThe first run has {shown(of_some, '{:.2f}')} times the least number of faults, in the geometric mean over the questions that need one.")
+
+
+def main(folder, program, *words):
+    earlier = [words[1]] if words[:1] == ("--earlier",) else []
+    cadical = library(folder)
+    kept = []
+    print("| " + " | ".join(heads(bool(earlier))) + " |\n" + "|---" * len(heads(bool(earlier))) + "|")
+    for row in rows([program] + earlier, cadical, folder, words[2:] if earlier else words):
+        kept.append(row)
+        print("| " + " | ".join(cells(row)) + " |", flush=True)
+    summary(kept)
 
 
 if __name__ == "__main__":
     with tempfile.TemporaryDirectory() as scratch:
-        main(sys.argv[1], scratch, *sys.argv[2:])
+        main(scratch, *sys.argv[1:])
