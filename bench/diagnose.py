@@ -49,7 +49,7 @@ the cheap questions, with 6 seconds each at most: in parentheses stands how many
 | all | 98 | 0.54 |  | 0.54 | 427 | 1228 | 270 (64) | 2, 1 |
 
 So the program takes 0.54 of the library's seconds over all families, 0.5 to 0.7 of them on six and seven equal alarms, and in the mean of a family at most 1.24 times as long. The worst are the line of a protection within 1.5 and 2 times the steps (5.9, and at least 4.1) and a torus in blocks (2.7). First runs have 1.6 times the least number of faults in all (4.5 times on 9ca9733), and in the
-geometric mean over 61 questions that need a fault 1.9 times: 2.8 to 4.5 times on toruses and adders, 1.0 to 2.0 elsewhere. On 65 questions, with up to 33 MiB, it takes 0.98 of the memory of 9ca9733, and on none more. An empty log of 45 components within 1,000 steps, nearly as large as a question may be, is explained with a budget of 0 in 1.3 seconds, with 375 MiB: by a profile
+geometric mean over 61 questions that need a fault 1.9 times: 2.8 to 4.5 times on toruses and adders, 1.0 to 2.0 elsewhere. On 68 questions, with up to 33 MiB, it takes 0.98 of the memory of 9ca9733, and 1.03 at the most. An empty log of 45 components within 1,000 steps, nearly as large as a question may be, is explained with a budget of 0 in 1.3 seconds, with 375 MiB: by a profile
 nearly all of this is spent on the writing of the formula, and 2 % on watches.
 
 What stays dear are more steps than a log needs. With 1.5 times and twice as many steps it takes so many times as many clauses (and twenty more, in geometric means over the questions that were answered): units 2.2 and 2.6, grids 2.8, protection 5.6 and 12, telecom 9.9 and 35, torus 24 and 48 in
