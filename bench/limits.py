@@ -8,25 +8,27 @@ where none is given. `check` needs a C compiler, for its yardstick lratcheck.c. 
 Seconds are those of the processor, the least of three runs that take turns with those of the yardstick. A ratio is that of the seconds, and in brackets that of the memory. The goals stand beside the ratios; what misses its goal is
 printed as it is, and nothing fails.
 
-By builds of the same code without its proof, on four shared processors under heavy load, so that seconds vary by up to two; `-` where 30 seconds (40 for `verdicts`) weren't enough. Before: on 30 November 2026, the program without any of what is told here. After: on 1 December (the row of a formula without the last change to the checker).
+Before: on 30 November 2026, by a build of the program without any of what is told here and without its proof, on four shared processors under heavy load, so that seconds vary by up to two; `-` where 30 seconds (40 for `verdicts`) weren't enough. After: on 1 December by the proved program, on another such machine with as much else to do.
 In between came the checker's clauses by number and one look at a literal, one list a line of a proof, a twin question's list that its book takes over, the alarms' order by what stands before each, transitions by state and action with the place of a state's own number tried first, the table of touching events and
 their counts event by event, the labels of an alarm as a set, the advice of deadlines over lists of earlier alarms and over the events that the log's code keeps of each, and sums of the counter that `verdicts` tries first.
 
 | What | Before | After | Goal |
 |---|---|---|---|
-| `check`, 7 holes, 1 MB, times the C checker (memory) | 2.7 (1.0) | 2.4 (1.0) | 2.0 (1.2) |
-| `check`, 8 holes, 7 MB | 3.2 (2.4) | 2.7 (1.9) | 2.0 (1.2) |
-| `check`, a formula of 4,000,000 clauses, 97 MB | 3.4 (1.1) | 1.8 (0.8) | 2.0 (1.2) |
+| `check`, 7 holes, 1 MB, times the C checker (memory) | 2.7 (1.0) | 2.1 (1.0) | 2.0 (1.2) |
+| `check`, 8 holes, 7 MB | 3.2 (2.4) | 2.9 (1.8) | 2.0 (1.2) |
+| `check`, a formula of 4,000,000 clauses, 97 MB | 3.4 (1.1) | 1.7 (0.8) | 2.0 (1.2) |
 | `trace`, 4,000,000 events, 20 states, 10 actions, times one of three transitions | 2.5 | 1.0 | 1.5 |
 | `trace`, 200 states, 250 actions | - | 1.1 | 1.5 |
 | `trace`, 256 states, 195 actions | - | 1.1 | 1.5 |
-| `trace`, one state, 4,000 actions | - | 0.9 | 1.5 |
+| `trace`, one state, 4,000 actions | - | 1.0 | 1.5 |
 | the same question again, 2,000 alarms, 20,000 pairs | 0.35 s | 0.004 s | 0.05 s |
-| `diagnose`, 2,000 alarms of 64 labels, 4,000 events, 0 steps | 3.1 s | 0.47 s | 0.5 s |
-| `diagnose`, the largest model, 0 steps | 0.38 s | 0.15 s | 0.15 s |
-| `verdicts`, 30, 100, 300 fault events, beside `diagnose` | 3.7, 29 times, - | 1.9, 2.8, 4.7 | 5 |
-| `cheapest`, 30, 100, 300 fault events, beside `diagnose` (memory) | 14 (2.8), 6.3 (9.1), 3.5 (11.6) | 14 (2.8), 8.9 (9.1), 5.0 (11.7) | 4 (1.5) |
+| `diagnose`, 2,000 alarms of 64 labels, 4,000 events, 0 steps | 3.1 s | 0.41 s | 0.5 s |
+| `diagnose`, the largest model, 0 steps | 0.38 s | 0.14 s | 0.15 s |
+| `verdicts`, 30, 100, 300 fault events, beside `diagnose` | 3.7, 29 times, - | 1.9, 3.0, 5.1 | 5 |
+| `cheapest`, 30, 100, 300 fault events, beside `diagnose` (memory) | 14 (2.8), 6.3 (9.1), 3.5 (11.6) | 15 (2.5), 9.2 (8.4), 4.6 (11.2) | 4 (1.5) |
 | `twin`, 40 devices, 200 steps, AFTER 100 | 16.9 bytes a literal | 8.7 | 5.2 |
+
+`check` stays above the C checker on proofs: half of its instructions read numbers, and two fifths follow hints, and it holds the whole proof, two blocks a step, where C keeps no hints. A literal takes 8 bytes, so a twin question's clauses can't take 5.2.
 
 `cheapest` can't get there while it writes its whole scale first, as its contract says: 1,001 variables and up to 2,002 clauses for each fault event and step, so 1.8 million variables and up to 3.6 million clauses for 300 fault events in 6 steps, each of which a question with an answer decides by itself. A third of what is left of the largest model (of its instructions) are
 the lists of touching events of `step_encode`, which asks each component for each event.

@@ -11,9 +11,9 @@ output must be whole replies: nothing, or of a session the replies to some of it
 
 A new command is a line in ROWS, once a case of files has it.
 
-On 30 November 2026, with the proved program: 15,900 runs of 27 commands, none wrong. 15,528 ended with status 9, and 372 answered as if
-nothing had been refused. `diagnose` asks for memory 307 times on a valve that tripped (2 steps) and 501 times on one that tripped again (5 steps), a `session`
-of three questions 376 times, `cheapest` (3 steps) 358, `verdicts` on three fault events 336, `proof` 324, `cnf` 301, `twin` (2 steps) 229, `replay` 134 and `check` of two steps 29 times.
+On 1 December 2026, with the proved program: 15,222 runs of 27 commands, none wrong. 14,824 ended with status 9, and 398 answered as if
+nothing had been refused. `diagnose` asks for memory 299 times on a valve that tripped (2 steps) and 495 times on one that tripped again (5 steps), a `session`
+of three questions 373 times, `cheapest` (3 steps) 355, `verdicts` on three fault events 330, `proof` 316, `cnf` 291, `twin` (2 steps) 197, `replay` 134 and `check` of two steps 28 times.
 """
 import os
 import re
