@@ -26,31 +26,29 @@ The families:
 
 A single question may vary severalfold where anything changes, so only means over families, or over several growths of activities, tell anything.
 
-On 1 December 2026, on four shared processors with some twenty other programs at work, question by question and not in one run of this script, for which the machine had no room: the proved program, once each, and CaDiCaL's library (1.5.3), asked by a replica of the search with the same formulas. Seven dear questions of telecom networks, protections and equal
-alarms were asked of the same program compiled without its proof, with 25 seconds each at most. Nine grids with 6 to 10 faults weren't asked, and of empty logs one of 20 components stands for that of 45. "9ca9733" is a build of that commit without its proof, which decides states before events and settles neither the last steps nor the last devices first. It was asked
-the cheap questions, with 6 seconds each at most: in parentheses stands how many, if less than all.
+On 1 December 2026, in one run of this script (29 minutes) on four processors with other work beside: the proved program, a build of commit 9ca9733 without its proof as the earlier program, which decides states before events and settles neither the last steps nor the last devices first, and CaDiCaL's library (1.5.3).
 
-| Family | Questions | Seconds to CaDiCaL's library's | the worst | to 9ca9733 | Faults of first runs | of 9ca9733 | least | Late: the program, CaDiCaL's library |
-|---|---|---|---|---|---|---|---|---|
-| empty log | 4 | 0.25 | 0.3 | 0.07 (1) | 0 | 0 | 0 (1) | 0, 0 |
-| torus, whole order | 6 | 0.73 | 0.9 | 0.66 (2) | 26 | 68 | 8 (4) | 0, 0 |
-| torus, order of each component | 6 | 0.76 | 1.6 | 1.14 (3) | 36 | 62 | 10 (5) | 0, 0 |
-| torus, order of blocks | 6 | 0.84 | 2.7 | 0.96 (3) | 40 | 64 | 10 (5) | 0, 0 |
-| telecom | 12 | 0.92 | 2.3 | 0.82 (4) | 42 | 123 | 32 (4) | 0, 0 |
-| protection | 14 | 1.24 | 5.9 | 0.88 (6) | 55 | 53 | 23 (9) | 1, 0 |
-| adder | 5 | 0.79 | 1.3 | 0.91 (4) | 27 | 110 | 5 (5) | 0, 0 |
-| units | 13 | 0.38 | 0.6 | 0.86 (4) | 112 | 462 | 112 (10) | 0, 0 |
-| valves | 3 | 0.16 | 0.2 | 0.22 (3) | 13 | 18 | 13 (3) | 0, 0 |
-| stations | 4 | 0.69 | 1.0 | 0.43 (3) | 9 | 10 | 9 (3) | 0, 0 |
-| meshes | 3 | 0.61 | 1.0 | 0.45 (2) | 12 | 98 | 12 (2) | 0, 0 |
-| equal alarms | 4 | 0.47 | 0.7 | 0.20 (2) | 11 | 11 | 11 (2) | 1, 1 |
-| lamps | 5 | 0.14 | 0.2 | 0.86 (1) | 0 | 0 | 0 (2) | 0, 0 |
-| grids | 13 | 1.15 | 1.8 | 1.07 (4) | 44 | 149 | 25 (9) | 0, 0 |
-| all | 98 | 0.54 |  | 0.54 | 427 | 1228 | 270 (64) | 2, 1 |
+| Family | Questions | Seconds to CaDiCaL's library's | the worst | to the earlier program's | MiB to the earlier program's | the worst | Clauses | earlier | Faults of first runs | earlier | least | Not answered: now, earlier, CaDiCaL's library |
+|---|---|---|---|---|---|---|---|---|---|---|---|---|
+| empty log | 5 | 0.29 | 0.30 | 0.03 | 1.00 | 1.00 |  |  | 0 | 0 | 0 | 0, 3, 0 |
+| torus, whole order | 6 | 0.70 | 0.79 | 0.70 | 0.69 | 0.69 | 306 | 424 | 41 | 102 | 12 | 0, 0, 0 |
+| torus, order of each component | 6 | 0.70 | 1.52 | 0.95 |  |  | 362 | 305 | 45 | 79 | 12 | 0, 0, 0 |
+| torus, order of blocks | 6 | 0.80 | 2.53 | 0.61 | 0.75 | 0.75 | 284 | 327 | 52 | 80 | 12 | 0, 0, 0 |
+| telecom | 12 | 0.84 | 1.79 | 1.00 | 1.14 | 1.94 | 747 | 958 | 148 | 379 | 96 | 0, 0, 0 |
+| protection | 14 | 1.11 | 5.33 | 0.93 | 1.29 | 1.66 | 586 | 587 | 92 | 92 | 40 | 1, 1, 0 |
+| adder | 5 | 0.73 | 1.24 | 0.88 |  |  | 776 | 758 | 27 | 110 | 5 | 0, 0, 0 |
+| units | 13 | 0.43 | 0.54 | 0.78 | 0.98 | 1.00 | 38 | 38 | 210 | 862 | 210 | 0, 0, 0 |
+| valves | 3 | 0.15 | 0.23 | 0.22 |  |  | 559 | 1728 | 13 | 18 | 13 | 0, 0, 0 |
+| stations | 4 | 0.63 | 1.00 | 0.42 |  |  | 794 | 1218 | 9 | 10 | 9 | 0, 0, 0 |
+| meshes | 3 | 0.57 | 1.00 | 0.68 | 1.27 | 1.27 | 250 | 476 | 34 | 207 | 18 | 0, 0, 0 |
+| equal alarms | 4 | 0.44 | 0.67 | 0.14 |  |  | 929 | 2817 | 18 | 18 | 18 | 1, 2, 1 |
+| lamps | 5 | 0.14 | 0.24 | 0.85 | 1.00 | 1.00 | 270 | 270 | 0 | 0 | 0 | 0, 0, 1 |
+| grids | 22 | 1.46 | 5.43 | 1.17 | 1.12 | 1.58 | 395 | 329 | 117 | 319 | 78 | 5, 5, 1 |
+| all | 108 | 0.54 |  | 0.50 | 1.01 |  |  |  | 806 | 2276 | 523 | 7, 11, 3 |
 
-So the program takes 0.54 of the library's seconds over all families, 0.5 to 0.7 of them on six and seven equal alarms, and in the mean of a family at most 1.24 times as long. The worst are the line of a protection within 1.5 and 2 times the steps (5.9, and at least 4.1) and a torus in blocks (2.7). First runs have 1.6 times the least number of faults in all (4.5 times on 9ca9733), and in the
-geometric mean over 61 questions that need a fault 1.9 times: 2.8 to 4.5 times on toruses and adders, 1.0 to 2.0 elsewhere. On 68 questions, with up to 33 MiB, it takes 0.98 of the memory of 9ca9733, and 1.03 at the most. An empty log of 45 components within 1,000 steps, nearly as large as a question may be, is explained with a budget of 0 in 1.3 seconds, with 375 MiB: by a profile
-nearly all of this is spent on the writing of the formula, and 2 % on watches.
+So the program takes 0.54 of the library's seconds over all families, 0.5 and 0.7 of them on six and seven equal alarms, and on each family but grids at most 1.11 times as long. Who is late counts with 20 seconds, so the 1.46 of the grids is a lower bound: in the order of each component those with 6 to 9 faults aren't answered then, now or before, and take the library 4, 5, 16 and 12 seconds.
+The worst answered ones are a protection's line (5.3; late within twice the steps, where the library takes 6 seconds) and a torus in blocks (2.5). First runs have 1.5 times the least number of faults in all (4.4 before), and 1.84 times in the geometric mean. Memory is 1.01 of what it was in the mean of the families; it follows the clauses that are learnt, so single questions take up to 1.9 times as much.
+An empty log of 45 components within 1,000 steps, nearly as large as a question may be, takes no clause, 1.1 seconds and 375 MiB: by a profile nearly all of this is spent on the writing of the formula, and 2 % on watches.
 
 What stays dear are more steps than a log needs. With 1.5 times and twice as many steps it takes so many times as many clauses (and twenty more, in geometric means over the questions that were answered): units 2.2 and 2.6, grids 2.8, protection 5.6 and 12, telecom 9.9 and 35, torus 24 and 48 in
 the whole order, 7 and 46 in that of each component, 17 and 107 in blocks; meshes 0.9. bench/NOTES.md says what was tried against that.
