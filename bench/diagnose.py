@@ -26,7 +26,7 @@ The families:
 
 A single question may vary severalfold where anything changes, so only means over families, or over several growths of activities, tell anything.
 
-On 1 December 2026, in one run of this script (29 minutes) on four processors with other work beside: the proved program, a build of commit 9ca9733 without its proof as the earlier program, which decides states before events and settles neither the last steps nor the last devices first, and CaDiCaL's library (1.5.3).
+On 1 December 2026, in one run of this script (29 minutes) on four processors with other work beside: the proved program (of commit b81c8763, whose search is that of today), a build of commit 9ca9733 without its proof as the earlier program, which decides states before events and settles neither the last steps nor the last devices first, and CaDiCaL's library (1.5.3).
 
 | Family | Questions | Seconds to CaDiCaL's library's | the worst | to the earlier program's | MiB to the earlier program's | the worst | Clauses | earlier | Faults of first runs | earlier | least | Not answered: now, earlier, CaDiCaL's library |
 |---|---|---|---|---|---|---|---|---|---|---|---|---|
@@ -46,7 +46,7 @@ On 1 December 2026, in one run of this script (29 minutes) on four processors wi
 | grids | 22 | 1.46 | 5.43 | 1.17 | 1.12 | 1.58 | 395 | 329 | 117 | 319 | 78 | 5, 5, 1 |
 | all | 108 | 0.54 |  | 0.50 | 1.01 |  |  |  | 806 | 2276 | 523 | 7, 11, 3 |
 
-So the program takes 0.54 of the library's seconds over all families, 0.5 and 0.7 of them on six and seven equal alarms, and on each family but grids at most 1.11 times as long. Who is late counts with 20 seconds, so the 1.46 of the grids is a lower bound: in the order of each component those with 6 to 9 faults aren't answered then, now or before, and take the library 4, 5, 16 and 12 seconds.
+So the program takes 0.54 of the library's seconds over all families, 0.5 and 0.7 of them on six and seven equal alarms, and on each family but grids at most 1.11 times as long. Who is late counts with 20 seconds, so the 1.46 of the grids is a lower bound, and so are the 1.11 of the protections, one of which is late, and the 0.54: in the order of each component those with 6 to 9 faults aren't answered then, now or before, and take the library 4, 5, 16 and 12 seconds.
 The worst answered ones are a protection's line (5.3; late within twice the steps, where the library takes 6 seconds) and a torus in blocks (2.5). First runs have 1.5 times the least number of faults in all (4.4 before), and 1.84 times in the geometric mean. Memory is 1.01 of what it was in the mean of the families; it follows the clauses that are learnt, so single questions take up to 1.9 times as much.
 An empty log of 45 components within 1,000 steps, nearly as large as a question may be, takes no clause, 1.1 seconds and 375 MiB: by a profile nearly all of this is spent on the writing of the formula, and 2 % on watches.
 
