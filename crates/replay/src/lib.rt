@@ -7,7 +7,6 @@
 //! what an explanation is, and `specs/Replayed.antt` what each answer means.
 #![tactic(auto)]
 
-mod labels;
 mod laws;
 mod marks;
 mod matching;
@@ -21,7 +20,6 @@ mod state_set;
 mod tracing;
 mod width;
 
-pub use labels::has_any_label;
 pub use laws::{
     absent_excludes, accepted_explains, explains_decides, least_is_one, many_is_above,
     replies_are_unique, traces_are_unique,
