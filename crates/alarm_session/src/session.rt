@@ -52,7 +52,7 @@ impl<'a, R> Model for Session<'a, R> {
 impl<'a, R: Fn(u32) -> u64> Session<'a, R> {
     /// A session about runs within n steps, with an empty log, over an empty book. The order has no variables yet.
     ///
-    /// It is refused as too large where the question of the empty log is. A refusal drops the book.
+    /// It is refused as too large if the question of the empty log is. A refusal drops the book.
     pub fn new<T: Fn(u32, u32) -> bool>(
         alloc: Global,
         net: &'a Network,

@@ -66,7 +66,7 @@ fn is_least(answer: Result<Cheap, Memory>, want: Option<u32>) -> bool {
     }
 }
 
-// Whether this is the least total, where the question is built.
+// Whether this is the least total, if the question is built.
 fn weighs<C: Fn(u32) -> u32, R: Fn(u32) -> u64>(
     alloc: Global,
     net: &Network,
@@ -89,7 +89,7 @@ fn weighs<C: Fn(u32) -> u32, R: Fn(u32) -> u64>(
     is_least(answer, want)
 }
 
-// The same where the book is empty, with a test and a solver that are given.
+// The same with an empty book, with a test and a solver that are given.
 fn builds<T: Fn(u32, u32) -> bool, C: Fn(u32) -> u32, R: Fn(u32) -> u64>(
     alloc: Global,
     net: &Network,

@@ -15,7 +15,7 @@ use sat_solve::{Answer, Solver};
 use std::alloc::Global;
 
 // A question: the budget, how many assumptions there are, eight at most, on the first variables, their signs as bits, and whether
-// it is satisfiable, or nothing where the budget is to be spent.
+// it is satisfiable, or nothing if the budget is to be spent.
 type SolverQuestion = (u64, usize, u64, Option<bool>);
 
 // A budget of more conflicts than any of these takes.
@@ -158,7 +158,7 @@ fn ask_all<R: Fn(u32) -> u64>(
     true
 }
 
-// Whether all questions are answered rightly, where the last quarter of the clauses comes after the early ones.
+// Whether all questions are answered correctly when the last quarter of the clauses comes after the early ones.
 fn answers_in_two<R: Fn(u32) -> u64>(
     solver: &mut Solver<R>,
     book: &mut Ledger,

@@ -26,7 +26,7 @@ use run_decode::decode;
 use sat_solve::Answer;
 use weight_counter::Scale;
 
-// What a question comes to.
+// The outcome of a question.
 #[derive(Drop)]
 pub enum CostAnswer {
     Explained(Priced),

@@ -136,7 +136,7 @@ fn halve<C: Fn(u32) -> u32, R: Fn(u32) -> u64>(
     }
 }
 
-// What the search comes to at most: the known total, or one more than the greatest that is asked for.
+// The most that the search can find: the known total, or one more than the greatest that is asked for.
 fn ceiling(hi: u32) -> u32
     ensures { result ≡ min hi (1 + MOST_COST) }
 {

@@ -11,7 +11,7 @@ pub enum LoadFault {
 
 /// Files by name, on a disk or in memory. It counts loads that fail, so that a fault has its cause.
 pub trait Shelf {
-    /// What it holds under a name, where it tells that.
+    /// What it holds under a name, if it says so.
     ghost held: { Self → List ℕ → Option (List ℕ) };
 
     /// A count for each name: a load of it that fails raises it, and no call lowers it.
@@ -40,10 +40,10 @@ pub trait Sink {
     /// A count that a put that fails raises, and that no call lowers.
     ghost faults: { Self → ℕ };
 
-    /// How many puts have failed, where it tells that. The count of faults may rise beside a put that succeeds, this one not.
+    /// How many puts have failed, if it says so. The count of faults may rise beside a put that succeeds, this one not.
     ghost failures: { Self → Option ℕ } = { λ _. None };
 
-    /// Takes the piece. Where that fails, a front of it may have been taken.
+    /// Takes the piece. If that fails, a front of it may have been taken.
     fn put(&mut self, piece: &[u8]) -> Result<(), PutFault>
         ensures ok { OnOk result (Took (taken self.old) (taken self.new) (piece.now ∷ [])) }
         ensures front { OnErr result (TookFront (taken self.old) (taken self.new) piece.now) }

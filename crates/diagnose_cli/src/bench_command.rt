@@ -127,7 +127,7 @@ fn first_line(text: &[u8]) -> &[u8]
     }
 }
 
-// How many bytes stand before the first line feed, or all where there is none.
+// How many bytes stand before the first line feed, or all if there is none.
 fn line_len(text: &[u8]) -> usize
     ensures line { result ≡ position_or_len (λ byte. byte == 10) text.now }
     ensures within { result ≤ length text.now }

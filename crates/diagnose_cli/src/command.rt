@@ -6,7 +6,7 @@ ghost use Rattle.diagnose_cli.specs.Words.{limits_of, most_number, most_steps, u
 
 use des_base::read_number;
 
-/// What is asked for: a run of at most this many parallel steps, found by a search that may learn as many clauses as the budget says.
+/// What is asked for: a run of at most this many parallel steps, found by a search that may learn at most BUDGET clauses.
 #[derive(Clone, Copy)]
 pub struct Limits {
     pub steps: u32,

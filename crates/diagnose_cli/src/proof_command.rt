@@ -1,4 +1,4 @@
-// `proof MODEL LOG N BUDGET`: the refutation that `diagnose` finds of one fault fewer, or of any number where nothing explains the log.
+// `proof MODEL LOG N BUDGET`: the refutation that `diagnose` finds of one fault fewer, or of any number if nothing explains the log.
 ghost use Rattle.std.specs.Prelude.{◌≡◌, ◌++◌, All, codes, IfOk, OnOk, refl};
 ghost use Rattle.diagnose_cli.specs.ProofText.{proof_head};
 ghost use Rattle.diagnose_cli.specs.Questions.{proof_question};
@@ -48,7 +48,7 @@ impl Replying for Refutation {
     ghost leaves_question = { λ s net log n book left. left };
 }
 
-// The reply where there is nothing to refute.
+// The reply if there is nothing to refute.
 fn nothing(alloc: Global) -> Result<Reply, Memory>
     ensures { IfOk result (λ reply. reply ≡ (Kind.Nothing, codes "NOTHING\n")) }
 {

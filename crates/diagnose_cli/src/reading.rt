@@ -63,7 +63,7 @@ pub trait Behind<R: Reading> {
     /// What is known of it.
     ghost fits: { R → Self → Type 0 } = { λ _ _. ⊤ };
 
-    /// Reads it where the others are read.
+    /// Reads it after the others.
     fn fetch_behind<F: Shelf>(
         alloc: Global,
         words: &WordList,

@@ -1,4 +1,4 @@
-// All that the program does, but for where its words, files and output come from.
+// All that the program does, except for where its words, files and output come from.
 ghost use Rattle.std.specs.Prelude.{◌≡◌, ◌≤◌, [], IfSome};
 ghost use Rattle.des_base.specs.CommandWords.{word_at};
 ghost use Rattle.des_base.specs.Outside.{Rose};

@@ -46,7 +46,7 @@ impl<'a, R: Fn(u32) -> u64> Teller for RowTeller<'a, R> {
     }
 }
 
-// The reply to a row that told this: none where an addition was made.
+// The reply to a row with this outcome: none if an addition was made.
 fn reply_to(
     alloc: Global,
     net: &Network,

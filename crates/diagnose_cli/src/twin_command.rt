@@ -100,7 +100,7 @@ fn reply_about(
     tell(alloc, net, limits, &answer)
 }
 
-// The reply that tells what a test came to.
+// The reply that gives the outcome of a test.
 fn tell(alloc: Global, net: &Network, limits: TwinCommand, answer: &Twin) -> Result<Reply, Memory>
     requires steps { limits.steps ≤ MOST_STEPS }
     requires known { TwinEventsKnown net.now answer.now }

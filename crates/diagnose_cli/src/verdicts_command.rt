@@ -77,7 +77,7 @@ fn judge_case<S: Sink>(
     status_of(told)
 }
 
-// The status of what was told.
+// The status of what was printed.
 fn status_of(told: Result<Told, Broken>) -> u8
     ensures { result ≡ status_of_told told }
 {

@@ -6,7 +6,7 @@
 //!
 //! - The functions `fetch_*` load a file of a command, hold it against its limit and read it. Each gives what the text says, or
 //!   why the command stops there (`specs/Files.antt`, `specs/Texts.antt`).
-//! - [`put_once`] puts the text of an ending whole, and returns its status; where the put fails it answers 4, and out of memory it
+//! - [`put_once`] puts the text of an ending whole, and returns its status; if the put fails it returns 4, and out of memory it
 //!   puts nothing and answers 9 (`specs/Puts.antt`).
 #![tactic(auto)]
 

@@ -95,7 +95,7 @@ impl From<CostRefusal> for Stop {
     }
 }
 
-/// Why a command stops where the text of a formula is refused.
+/// Why a command stops if the text of a formula is refused.
 pub fn stop_of_cnf(refusal: TextRefusal) -> Stop
     ensures { result ≡ stop_of_cnf refusal }
 {
@@ -105,7 +105,7 @@ pub fn stop_of_cnf(refusal: TextRefusal) -> Stop
     }
 }
 
-/// Why a command stops where the text of a proof is refused.
+/// Why a command stops if the text of a proof is refused.
 pub fn stop_of_lrat(refusal: TextRefusal) -> Stop
     ensures { result ≡ stop_of_lrat refusal }
 {

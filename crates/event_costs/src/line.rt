@@ -81,7 +81,7 @@ fn read_cost(text: &[u8]) -> Option<u32>
     if cost >= 1 { Some(cost as u32) } else { None }
 }
 
-// The event of a line and its cost, where the earlier lines are in the table.
+// The event of a line and its cost, with the earlier lines in the table.
 pub(crate) fn read_price(
     net: &Network,
     table: &CostTable,

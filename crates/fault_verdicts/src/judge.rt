@@ -22,7 +22,7 @@ use std::marker::Model;
 
 /// Judges fault events one after another, over one book, beside a best run that is known.
 ///
-/// Each question goes on with what earlier ones learnt. A run that was found for an earlier event is kept: where it differs
+/// Each question goes on with what earlier ones learnt. A run that was found for an earlier event is kept: if it differs
 /// from the known one in a later event too, that event is possible, and nothing is asked.
 #[derive(Drop)]
 pub struct Judge<'a, R> {

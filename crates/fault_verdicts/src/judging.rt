@@ -26,7 +26,7 @@ use std::alloc::Global;
 /// What all explanations with the least number of faults say of a fault event, by one question that may learn as many clauses
 /// as the budget says.
 ///
-/// A run with the least number of faults is known. If it has the event, the question is for one without it, and else for one
+/// A run with the least number of faults is known. If it has the event, the question is for one without it, and otherwise for one
 /// with it. For the latter a variable is made, and the axiom added that gives the event in some step where it is true. The book gets a
 /// mark 0 first, and a mark 1 before each answer but `Memory`; after that the next call is still allowed.
 pub fn verdict<R: Fn(u32) -> u64>(
@@ -133,7 +133,7 @@ fn solve<R: Fn(u32) -> u64>(
     parts.solver.solve(book, assumed.as_slice(), left)
 }
 
-// What is assumed of the event: that it happens in no step if the known run has it, and else a literal that gives it in some.
+// What is assumed of the event: that it happens in no step if the known run has it, and otherwise a literal that makes it happen in some.
 fn assume<R: Fn(u32) -> u64>(
     alloc: Global,
     parts: &mut Parts<R>,

@@ -2,7 +2,7 @@
 //!
 //! - [`verdict`] asks one question about one fault event beside a question that is built and a best run that is known: for a best
 //!   run without the event, or for one with it.
-//! - [`Judge`] does so for one event after another, over one book, and asks nothing where a run that was found before shows that an
+//! - [`Judge`] does so for one event after another, over one book, and asks nothing if a run that was found before shows that an
 //!   event is possible.
 //! - A final entry of negated assumptions shows that an event is certain or excluded, and a run that it is possible.
 #![tactic(auto)]

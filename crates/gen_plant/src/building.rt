@@ -1,4 +1,4 @@
-// The builder's calls where it refuses nothing, so that they fail only if memory runs out.
+// The builder's calls when it refuses nothing, so that they fail only if memory runs out.
 ghost use Rattle.std.specs.Prelude.{◌≡◌, ◌<◌, None, length, IfOk, OnOk};
 ghost use Rattle.des_base.specs.Names.{IsName};
 ghost use Rattle.des_net.specs.Building.{component_refusal, with_component, state_refusal, with_state, change_component, trans_refusal, with_trans, event_refusal, with_event};

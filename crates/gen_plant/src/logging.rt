@@ -1,4 +1,4 @@
-// The log's calls where it refuses nothing, so that they fail only if memory runs out.
+// The log's calls when it refuses nothing, so that they fail only if memory runs out.
 ghost use Rattle.std.specs.Prelude.{◌≡◌, None, [], ◌∷◌, length, false, IfOk, OnOk};
 ghost use Rattle.log_order.specs.Adding.{alarm_refusal, with_alarm, before_refusal, with_pair};
 

@@ -40,7 +40,7 @@ impl Inquiry for LeastFaults {
     }
 }
 
-/// Searches for the least number of faults, where nothing has been asked yet of the question in the book. The book then has evidence
+/// Searches for the least number of faults, if nothing has been asked yet of the question in the book. The book then has evidence
 /// for what is found.
 pub fn find_least<R: Fn(u32) -> u64>(
     alloc: Global,

@@ -53,7 +53,7 @@ impl Inquiry for Refutation {
     }
 }
 
-// What is refuted where this was found.
+// What is refuted if this was found.
 fn refuted_for<R: Fn(u32) -> u64>(
     alloc: Global,
     case: &Case,

@@ -14,7 +14,7 @@ use sat_order::Order;
 use std::alloc::Global;
 use step_encode::step_variables;
 
-/// A search that begins over an empty book, and may put something meanwhile: into `Out`, which is `()` where it puts nothing.
+/// A search that begins over an empty book, and may put something meanwhile: into `Out`, which is `()` if it puts nothing.
 pub trait NetworkSearch<Out> {
     /// What comes of it.
     type Answer;

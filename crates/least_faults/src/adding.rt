@@ -23,7 +23,7 @@ use std::alloc::Global;
 pub struct Reserved {
     /// The draft.
     pub draft: Draft,
-    /// Whether it is of a doubtful alarm, which the counter of the faults counts where it is false.
+    /// Whether it is of a doubtful alarm, which the counter of faults counts if it is false.
     pub doubtful: bool,
     /// Its clauses, and room for those of the counter.
     pub clauses: Clauses,

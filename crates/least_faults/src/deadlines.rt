@@ -21,7 +21,7 @@ use log_order::AlarmLog;
 use prop_core::Lit;
 use std::alloc::Global;
 
-/// Advises the solver by the deadlines of the log as it is now. `build` does so too: call it where alarms or pairs were added.
+/// Advises the solver by the deadlines of the log as it is now. `build` does so too: call it when alarms or pairs were added.
 ///
 /// No answer depends on it, but how soon one comes.
 pub fn advise<R: Fn(u32) -> u64>(
@@ -137,7 +137,7 @@ fn meet(first: &[CompId], second: &[CompId]) -> bool {
     first.iter().any(|comp| second.contains(comp))
 }
 
-// For each alarm the components that each event touches that it may stand for: none where it is doubtful.
+// For each alarm the components that each event touches that it may stand for: none if it is doubtful.
 pub fn devices(question: Question<'_>, code: &LogCode) -> Result<Vec<Vec<CompId>>, Memory>
     requires { IsCodeFor question.net.now question.log.now code.now.coded }
     ensures { IfOk result (λ devices. length devices.items ≡ length question.entry.log.now.alarms) }

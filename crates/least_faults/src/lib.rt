@@ -1,7 +1,7 @@
 //! The least number of faults that explains an alarm log, by a search upwards from 0 with evidence in a book.
 //!
 //! - [`build`] writes the clauses of a question into a book: the steps of a network, its log, and a counter of its faults. It advises the solver by the
-//!   deadlines of the log's alarms, and so does [`advise`] where the log has grown.
+//!   deadlines of the log's alarms, and so does [`advise`] when the log has grown.
 //! - [`reserve_draft`] and [`add_draft`] add an alarm or a pair of alarms to a question that is built: all memory is taken first.
 //! - [`bound`] gives the literal for at most k faults, and adds the columns that the counter lacks for it.
 //! - [`assumptions`] are what is assumed within a bound.

@@ -1,4 +1,4 @@
-// What a search tries where all alarms are of one device and some of them in no order: step by step from the last one on, that no alarm passes on an event
+// What a search tries if all alarms are of one device and some of them in no order: step by step from the last one on, that no alarm passes on an event
 // that it may stand for.
 //
 // Such alarms may stand in many orders, and each is as good as another; a search by activity goes through them. Where the last steps are settled

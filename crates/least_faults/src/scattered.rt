@@ -1,4 +1,4 @@
-// What a search within bounds tries where most alarms may be of several devices and few of them are in an order: device by device from the last one on,
+// What a search within bounds tries if most alarms may be of several devices and few of them are in an order: device by device from the last one on,
 // and for each step by step from the last one on, that no alarm passes on an event that touches this device and none before it.
 //
 // The counter counts fault events one after another. So a search that settles the last ones first knows soon how many faults are left to the others,
@@ -36,7 +36,7 @@ pub fn advise_within<R: Fn(u32) -> u64>(question: Question<'_>, parts: &mut Part
     }
 }
 
-// What is tried, the missed deadlines first: none where alarms aren't scattered.
+// What is tried, the missed deadlines first: none if alarms aren't scattered.
 fn tries_within(question: Question<'_>, code: &LogCode) -> Result<Option<Vec<Lit>>, Memory>
     requires { IsCodeFor question.net.now question.log.now code.now.coded }
 {

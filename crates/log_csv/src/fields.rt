@@ -38,7 +38,7 @@ pub fn keyword(fields: &ByteRecord) -> Option<RecordKeyword>
     }
 }
 
-// The second and the third field, where every further field is empty.
+// The second and the third field, if every further field is empty.
 pub fn two_fields(fields: &ByteRecord) -> Option<(&[u8], &[u8])>
     ensures { two_fields (drop 1 (fields_of fields.now)) ≡ option_map (λ pair. (pair.0.now, pair.1.now)) result }
 {

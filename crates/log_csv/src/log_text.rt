@@ -124,7 +124,7 @@ fn add_pair(log: &mut AlarmLog, row: u32, first: &Name, second: &Name) -> Result
     }
 }
 
-// The refusal of a text, where the log refuses the record of this row.
+// The refusal of a text, if the log refuses the record of this row.
 fn refusal_at(row: u32, refusal: LogRefusal) -> LogReadRefusal
     ensures { result ≡ log_refusal_at row refusal }
 {

@@ -16,7 +16,7 @@ use des_base::{ListOf, Name};
 use log_order::Certainty;
 use std::alloc::Global;
 
-// The row that a record says, where one of its fields isn't empty.
+// The row that a record says, if one of its fields isn't empty.
 #[tactic(auto, using(crate::proofs::RowLemmas::read_records))]
 pub fn read_record(alloc: Global, fields: &ByteRecord) -> Result<Option<Row>, RowRefusal>
     ensures { ReadsRecord (record_of (fields_of fields.now)) result }

@@ -9,7 +9,7 @@ use card_counter::chain_count;
 // Where the variables of an alarm stand: for each event that it may stand for, its link, one that ends the event's chain
 // after it, and for each step one that matches it to the event and one that passes the event on. Behind the links stand those
 // that say within how many steps it is done, then for each step those by which it is matched at most once there, and at the
-// end, where the alarm is doubtful, one that says that it is false.
+// end, if the alarm is doubtful, one that says that it is false.
 #[derive(Clone, Copy)]
 pub struct AlarmVars {
     pub start: u32,

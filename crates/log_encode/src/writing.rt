@@ -225,7 +225,7 @@ fn write_reals(vars: AlarmVars, out: &mut Clauses) -> Result<(), Memory>
     Ok(())
 }
 
-// The same where the alarm is doubtful.
+// The same if the alarm is doubtful.
 fn write_real(vars: AlarmVars, out: &mut Clauses) -> Result<(), Memory>
     requires { AreWithinLimit vars }
     ensures { OnOk result (out.new.clauses ≡ out.old.clauses ++ real_written vars) }

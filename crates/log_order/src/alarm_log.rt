@@ -1,4 +1,4 @@
-// A log of alarms, which refuses what does not fit and else adds the one thing.
+// A log of alarms, which refuses what doesn't fit and otherwise adds one thing.
 ghost use Rattle.std.specs.Prelude.{◌≡◌, ◌<◌, ◌≤◌, length, slice_get, option_map, not, true, false, IfOk, OnErr, OnOk, Some, None, Err};
 ghost use Rattle.des_base.specs.Names.{place_of};
 ghost use Rattle.des_base.specs.Refusing.{SucceedsUnless};

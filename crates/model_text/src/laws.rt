@@ -2,7 +2,7 @@
 ghost use Rattle.model_text.specs.GrowthLaw.{LinesGrow};
 ghost use Rattle.model_text.specs.ReadBack.{ModelsReadBack};
 
-/// A line is refused exactly if it has a code, which follows from the network of the lines before it, and else adds what it
+/// A line is refused exactly if it has a code, which follows from the network of the lines before it, and otherwise adds what it
 /// says to that network.
 #[tactic(auto, using(crate::proofs::LawLemmas::lines_grow))]
 pub fn lines_grow()

@@ -42,7 +42,7 @@ pub(crate) fn component_line<'a>(mut tokens: Tokens<'a>) -> Option<&'a [u8]>
     Some(name.text)
 }
 
-// The name, and the word `init` where that follows.
+// The name, and the word `init` if that follows.
 pub(crate) fn state_line<'a>(mut tokens: Tokens<'a>) -> Option<StateLine<'a>>
     ensures { state_line (texts_of tokens.entry) ≡ option_map state_said result }
 {

@@ -17,7 +17,7 @@ pub(crate) struct PartName<'a> {
     pub action: &'a [u8],
 }
 
-// The parts that the tokens name, where each has exactly one dot.
+// The parts that the tokens name, if each has exactly one dot.
 #[tactic(auto, using(crate::proofs::PieceLemmas::part_tokens))]
 pub(crate) fn part_names<'a>(
     alloc: Global,

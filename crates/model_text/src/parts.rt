@@ -49,7 +49,7 @@ fn find_part(builder: &Builder, name: PartName) -> Option<Part>
     Some(Part { comp, action })
 }
 
-// Why an event is refused where one of its parts isn't known.
+// Why an event is refused if one of its parts isn't known.
 pub(crate) fn refusal_of_unknown(
     alloc: Global,
     builder: &Builder,

@@ -1,4 +1,4 @@
-// The least total cost of what explains a log, where fault events have costs, as an inquiry.
+// The least total cost of what explains a log, when fault events have costs, as an inquiry.
 ghost use Rattle.std.specs.Prelude.{◌≡◌, ℕ, List, length, IfOk, Option};
 ghost use Rattle.event_costs.specs.Prices.{cost_at};
 ghost use Rattle.event_costs.specs.StoredCosts.{IsCost};

@@ -26,7 +26,7 @@ pub enum ProofStep {
     },
 }
 
-/// What a proof comes to.
+/// The outcome of a proof.
 #[derive(Clone, Copy)]
 pub enum Checked {
     /// No assignment makes all axioms true.
@@ -70,7 +70,7 @@ fn room(axioms: u64, steps: &[ProofStep]) -> usize {
     greatest.saturating_add(1) as usize
 }
 
-// Takes a step, and says what the proof comes to where the step ends it.
+// Takes a step, and gives the proof's outcome if the step ends it.
 fn take_step<'a>(
     truths: &mut Truths,
     held: &mut HeldClauses<'a>,

@@ -9,7 +9,7 @@ use crate::truths::{HintStep, Truths};
 use des_base::Memory;
 use prop_core::{ClauseId, Clauses, Lit};
 
-// What a step comes to.
+// The outcome of a step.
 #[derive(Clone, Copy)]
 pub enum Outcome {
     Derives,

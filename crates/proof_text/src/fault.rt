@@ -9,7 +9,7 @@ use des_base::Memory;
 /// | Code | Meaning |
 /// |---|---|
 /// | 1 | the header of a formula is missing or has another shape |
-/// | 2 | a token isn't a number, or is zero or negative where that can't stand |
+/// | 2 | a token isn't a number, or is zero or negative where that isn't allowed |
 /// | 3 | a literal's variable is greater than the number of variables |
 /// | 4 | there are more clauses than the header says, or fewer |
 /// | 5 | the last `0` of a clause or of a line is missing, or something follows it on the line of a proof |

@@ -10,7 +10,7 @@ use proof_ledger::ProofStep;
 use prop_core::{ClauseId, Lit};
 use std::alloc::Global;
 
-// What is read of a line until it is known how much there is, so that each step takes just the memory that it needs.
+// What is read of a line until it is known how much there is, so that each step takes only the memory that it needs.
 #[derive(Drop)]
 pub(crate) struct Scratch {
     pub ids: Vec<ClauseId>,

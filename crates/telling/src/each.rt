@@ -7,7 +7,7 @@ ghost use Rattle.telling.specs.declared.each.Broken.TheVariants.{Memory as NoMem
 use des_base::{Memory, Sink};
 use std::alloc::Global;
 
-/// Why it ends before all items are told.
+/// Why it ends before all items are printed.
 #[derive(Clone, Copy)]
 pub enum Broken {
     /// Out of memory.
