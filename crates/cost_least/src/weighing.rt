@@ -13,7 +13,7 @@ ghost use Rattle.cost_least.specs.Weighed.{AreWeighed, AreWeightedInputs, HasInp
 use des_base::{EventId, Memory};
 use des_net::Network;
 use event_costs::{Costs, MOST_COST};
-use least_faults::{Parts, push_axioms};
+use least_faults::Parts;
 use log_encode::LogCode;
 use log_order::AlarmLog;
 use proof_ledger::Ledger;
@@ -75,7 +75,7 @@ fn write_scale<R: Fn(u32) -> u64>(
         .reserve(parts.vars.count() + places as u32, 2 * places)?;
     let mut clauses = Clauses::new(alloc);
     let scale = Scale::new(inputs, AMOUNTS, &mut parts.vars, &mut clauses)?;
-    push_axioms(book, &clauses);
+    book.push_axioms(&clauses);
     // (The book has them now, so the list leaves its room to the watches.)
     drop(clauses);
     parts.solver.adopt(book);

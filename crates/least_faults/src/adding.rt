@@ -9,7 +9,6 @@ ghost use Rattle.least_faults.specs.Parts.{AreReady};
 ghost use Rattle.log_clauses.specs.Additions.{with_addition};
 ghost use Rattle.log_encode.specs.Drafted.{IsDraftOf};
 
-use crate::axioms::push_axioms;
 use crate::parts::Parts;
 use card_counter::Counter;
 use des_base::{Memory, VAR_LIMIT};
@@ -146,7 +145,7 @@ pub fn add_draft<R: Fn(u32) -> u64>(reserved: Reserved, parts: &mut Parts<R>, bo
         &mut parts.vars,
         &mut clauses,
     );
-    push_axioms(book, &clauses);
+    book.push_axioms(&clauses);
     parts.solver.adopt(book);
 }
 

@@ -5,7 +5,6 @@ ghost use Rattle.least_faults.specs.Asking.{IsBoundLiteral};
 ghost use Rattle.least_faults.specs.Growing.{AddsAxioms, KeepsQuestion, StandsStill};
 ghost use Rattle.least_faults.specs.Parts.{AreReady, AreReadyBeside};
 
-use crate::axioms::push_axioms;
 use crate::parts::Parts;
 use des_base::Memory;
 use proof_ledger::Ledger;
@@ -59,7 +58,7 @@ fn add_column<R: Fn(u32) -> u64>(
         .reserve(parts.vars.count() + inputs as u32, 2 * inputs)?;
     let mut clauses = Clauses::new(alloc);
     parts.counter.add_column(&mut parts.vars, &mut clauses)?;
-    push_axioms(book, &clauses);
+    book.push_axioms(&clauses);
     parts.solver.adopt(book);
     Ok(())
 }

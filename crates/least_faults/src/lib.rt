@@ -11,7 +11,6 @@
 
 mod adding;
 mod asking;
-mod axioms;
 mod bounding;
 mod building;
 mod deadlines;
@@ -26,7 +25,6 @@ mod searching;
 pub use adding::{Reserved, add_draft, reserve_draft};
 pub use answers::{Best, Found};
 pub use asking::assumptions;
-pub use axioms::push_axioms;
 pub use bounding::bound;
 pub use building::build;
 pub use deadlines::advise;

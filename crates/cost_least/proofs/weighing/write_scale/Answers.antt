@@ -27,7 +27,7 @@ adopt-requires g c =
     let written = are_written c.args.inputs.now _ _ _ _ _ _ c.in_ok-scale.ensures.added (ap (λ (s : ClauseStore). s.clauses) c.new-clauses.ensures) c.requires.below in
     let vars = c.in_ok-reserve-2.ensures.ok.vars in
     let count = c.count.ensures.count in
-    let adopts = adoptable c.reserve-2.new.self.adopted c.args.book.now.entries c.reserve.new.self.entries c.push_axioms.new.book.entries c.new.new.out.clauses c.reserve-2.new.self.vars _ (c.reserve-2.ensures.adopted ∙ c.requires.ready.adopted_all) c.reserve.ensures.same c.push_axioms.ensures written.known (omega (arith, vars, count)) in
+    let adopts = adoptable c.reserve-2.new.self.adopted c.args.book.now.entries c.reserve.new.self.entries c.push_axioms.new.self.entries c.new.new.out.clauses c.reserve-2.new.self.vars _ (c.reserve-2.ensures.adopted ∙ c.requires.ready.adopted_all) c.reserve.ensures.same c.push_axioms.ensures written.known (omega (arith, vars, count)) in
     let long = adopts.long in
     let spare = c.in_ok-reserve-2.ensures.ok.spare in
     let few = written.few in
@@ -41,7 +41,7 @@ pub returns-clause-weighed : goal.returns-clause-weighed
 returns-clause-weighed g c = λ cost weighted.
     let old = c.args.parts.now in
     let book = c.args.book.now.entries in
-    let entries = c.push_axioms.new.book.entries in
+    let entries = c.push_axioms.new.self.entries in
     let vars = c.in_ok-reserve-2.ensures.ok.vars in
     let count = c.count.ensures.count in
     let next = c.in_ok-scale.ensures.added.vars in
@@ -77,4 +77,4 @@ pub returns-in_err-scale-clause-axioms : goal.returns-in_err-scale-clause-axioms
 returns-in_err-scale-clause-axioms g c = adds_none c.args.book.now.entries c.reserve.new.self.entries c.reserve.ensures.same
 
 pub returns-clause-axioms : goal.returns-clause-axioms
-returns-clause-axioms g c = adds_pushed c.args.book.now.entries c.reserve.new.self.entries c.push_axioms.new.book.entries c.new.new.out.clauses c.reserve.ensures.same c.push_axioms.ensures
+returns-clause-axioms g c = adds_pushed c.args.book.now.entries c.reserve.new.self.entries c.push_axioms.new.self.entries c.new.new.out.clauses c.reserve.ensures.same c.push_axioms.ensures

@@ -30,25 +30,25 @@ push_axioms-requires g c =
 pub adopt-requires : goal.adopt-requires
 adopt-requires g c =
     let few = few_added _ _ _ _ _ c.fresh.new.self c.args.book.now.entries c.requires.ready.coded _ c.requires.reserved.drafted c.requires.reserved.fits (omega (arith, c.fresh.ensures.count, c.vars.ensures)) c.commit.ensures _ c.requires.reserved.doubted _ _ _ _ c.requires.reserved.written c.count_false.ensures in
-    let has = draft_added _ _ _ _ _ c.fresh.new.self c.args.book.now.entries c.requires.ready.coded _ c.requires.reserved.drafted c.requires.reserved.fits (omega (arith, c.fresh.ensures.count, c.vars.ensures)) c.commit.ensures _ c.requires.reserved.doubted _ _ _ _ c.requires.reserved.written c.count_false.ensures _ _ c.push_axioms.new.book.entries c.requires.ready.adopted_all c.requires.reserved.room.values c.push_axioms.ensures in
+    let has = draft_added _ _ _ _ _ c.fresh.new.self c.args.book.now.entries c.requires.ready.coded _ c.requires.reserved.drafted c.requires.reserved.fits (omega (arith, c.fresh.ensures.count, c.vars.ensures)) c.commit.ensures _ c.requires.reserved.doubted _ _ _ _ c.requires.reserved.written c.count_false.ensures _ _ c.push_axioms.new.self.entries c.requires.ready.adopted_all c.requires.reserved.room.values c.push_axioms.ensures in
     let long = has.long in
     record { grown = has.front; room = omega (arith, long, few.few, c.requires.reserved.room.attached); known = has.known }
 
 pub returns : goal.returns
 returns g c =
-    let has = draft_added _ _ _ _ _ c.fresh.new.self c.args.book.now.entries c.requires.ready.coded _ c.requires.reserved.drafted c.requires.reserved.fits (omega (arith, c.fresh.ensures.count, c.vars.ensures)) c.commit.ensures _ c.requires.reserved.doubted _ _ _ _ c.requires.reserved.written c.count_false.ensures _ _ c.push_axioms.new.book.entries c.requires.ready.adopted_all c.requires.reserved.room.values c.push_axioms.ensures in
+    let has = draft_added _ _ _ _ _ c.fresh.new.self c.args.book.now.entries c.requires.ready.coded _ c.requires.reserved.drafted c.requires.reserved.fits (omega (arith, c.fresh.ensures.count, c.vars.ensures)) c.commit.ensures _ c.requires.reserved.doubted _ _ _ _ c.requires.reserved.written c.count_false.ensures _ _ c.push_axioms.new.self.entries c.requires.ready.adopted_all c.requires.reserved.room.values c.push_axioms.ensures in
     let values = ap (λ (s : SolverState _). s.vars) c.adopt.ensures.value in
     let enough = has.enough in
     record {
       ready = record {
         coded = has.parts;
-        known = known_after c.args.book.now.entries c.push_axioms.new.book.entries (record { axioms = c.count_false.new.clauses.clauses; more = c.push_axioms.ensures }) c.requires.ready.known;
+        known = known_after c.args.book.now.entries c.push_axioms.new.self.entries (record { axioms = c.count_false.new.clauses.clauses; more = c.push_axioms.ensures }) c.requires.ready.known;
         adopted_all = ap (λ (s : SolverState _). s.adopted) c.adopt.ensures.value;
         enough = omega (arith, values, enough);
         ranked = subst (IsRanked (goal.R-pre g) (goal.R-post g)) (sym (ap (λ (s : SolverState _). s.order) c.adopt.ensures.value)) c.requires.ready.ranked;
       };
       added = record {
-        built = built_added _ _ _ _ _ c.fresh.new.self c.args.book.now.entries c.requires.ready.coded _ c.requires.reserved.drafted c.requires.reserved.fits (omega (arith, c.fresh.ensures.count, c.vars.ensures)) c.commit.ensures _ c.requires.reserved.doubted _ _ _ _ c.requires.reserved.written c.count_false.ensures c.push_axioms.new.book.entries c.push_axioms.ensures;
+        built = built_added _ _ _ _ _ c.fresh.new.self c.args.book.now.entries c.requires.ready.coded _ c.requires.reserved.drafted c.requires.reserved.fits (omega (arith, c.fresh.ensures.count, c.vars.ensures)) c.commit.ensures _ c.requires.reserved.doubted _ _ _ _ c.requires.reserved.written c.count_false.ensures c.push_axioms.new.self.entries c.push_axioms.ensures;
         put = c.push_axioms.ensures ∙ ap (λ (cs : List Clause). c.args.book.now.entries ++ map axiomatic cs) (clauses_built _ _ _ _ _ c.fresh.new.self c.args.book.now.entries c.requires.ready.coded _ c.requires.reserved.drafted c.requires.reserved.fits (omega (arith, c.fresh.ensures.count, c.vars.ensures)) c.commit.ensures _ c.requires.reserved.doubted _ _ _ _ c.requires.reserved.written c.count_false.ensures);
         rank = ap (λ (s : SolverState _). s.order.rank) c.adopt.ensures.value;
       };

@@ -45,7 +45,7 @@ returns-clause-ready g c =
     let enough = column.enough in
     record {
       coded = column.room;
-      known = known_after c.args.book.now.entries c.push_axioms.new.book.entries column.axioms c.requires.ready.known;
+      known = known_after c.args.book.now.entries c.push_axioms.new.self.entries column.axioms c.requires.ready.known;
       adopted_all = ap (λ (s : SolverState _). s.adopted) c.adopt.ensures.value;
       enough = omega (arith, values, enough);
       ranked = subst (IsRanked (goal.R-pre g) (goal.R-post g)) (sym (ap (λ (s : SolverState _). s.order) c.adopt.ensures.value)) (c.reserve-2.ensures.ranked c.requires.ready.ranked);
