@@ -14,7 +14,7 @@ use Rattle.card_counter.proofs.Counts.{count_cons, Reaches, reached, counting}
 use Rattle.card_counter.proofs.NameLemmas.{no_name, counter_meanings_stand}
 use Rattle.card_counter.specs.CounterClauses.{CountClause, counts_on, counts_up, opposite, count_clause, IsCountClause, IsOfColumns, IsNamedCount}
 use Rattle.card_counter.specs.CounterState.{CounterState, IsPlace, IsCounter, variable, column_at, column_before, positive, Reached, always, never, told_by, reached_in, reached_before, under, place_clauses, input_at, column_clauses, counter_clauses, bound_literal, counter_meanings}
-use Rattle.card_counter.specs.Counting.{true_count, AgreeOutside, ExtendsOverCounter, CounterIsExact, is_count, counted, NamedCountIsExact}
+use Rattle.card_counter.specs.Counting.{true_count, AgreeOutside, ExtendsOverCounter, CounterIsExact, is_count, with_counts, NamedCountIsExact}
 use Rattle.prop_core.specs.Trail.{no_literal}
 
 -- ---- clauses with premises
@@ -267,7 +267,7 @@ module _ (inputs : List NamedLiteral) (value : Meaning → Bool) where
           absurd (let clash : true ≡ false = sym many ∙ none in cc)
       by (inr few) = few
 
-  others_stay : (meaning : Meaning) → is_count meaning ≡ false → counted inputs value meaning ≡ value meaning
+  others_stay : (meaning : Meaning) → is_count meaning ≡ false → with_counts inputs value meaning ≡ value meaning
   others_stay (in_state c q t) h = refl
   others_stay (happens e t) h = refl
   others_stay asked h = refl
@@ -280,28 +280,28 @@ module _ (inputs : List NamedLiteral) (value : Meaning → Bool) where
   others_stay (some_of_first family i) h = refl
 
   module _ (plain : (x : NamedLiteral) → Contains inputs x → is_count x.meaning ≡ false) where
-    same_input : (x : NamedLiteral) → Contains inputs x → named_true (counted inputs value) x ≡ named_true value x
+    same_input : (x : NamedLiteral) → Contains inputs x → named_true (with_counts inputs value) x ≡ named_true value x
     same_input x here = ap (same_sign x.positive) (others_stay x.meaning (plain x here))
 
-    holds_by_name : (columns : ℕ) (which : CountClause) → IsCountClause inputs which → IsOfColumns columns which → IsTrue (named_clause_true (counted inputs value) (count_clause which))
+    holds_by_name : (columns : ℕ) (which : CountClause) → IsCountClause inputs which → IsOfColumns columns which → IsTrue (named_clause_true (with_counts inputs value) (count_clause which))
     holds_by_name columns (counts_on zero j) is of = absurd (let low = is.0 in omega arith)
     holds_by_name columns (counts_on (suc i) zero) is of = absurd (let one = is.2 in omega arith)
     holds_by_name columns (counts_on (suc i) (suc j)) is of =
-        implies (counted inputs value (reaches (suc i) (suc j))) (counted inputs value (reaches (suc (suc i)) (suc j))) (λ h. (counting (named_true value) inputs columns).kept i j is.1 of h)
+        implies (with_counts inputs value (reaches (suc i) (suc j))) (with_counts inputs value (reaches (suc (suc i)) (suc j))) (λ h. (counting (named_true value) inputs columns).kept i j is.1 of h)
     holds_by_name columns (counts_up i zero x) is of =
-        input_unless_back (counted inputs value x.meaning) x.positive (counted inputs value (reaches (suc i) 1) || false) (λ h.
-        alone_back (counted inputs value (reaches (suc i) 1)) ((counting (named_true value) inputs columns).counted i 0 x is.0 of (sym (same_input x (contains_at inputs i x is.0)) ∙ h) (inl refl)))
+        input_unless_back (with_counts inputs value x.meaning) x.positive (with_counts inputs value (reaches (suc i) 1) || false) (λ h.
+        alone_back (with_counts inputs value (reaches (suc i) 1)) ((counting (named_true value) inputs columns).counted i 0 x is.0 of (sym (same_input x (contains_at inputs i x is.0)) ∙ h) (inl refl)))
     holds_by_name columns (counts_up i (suc j) x) is of =
-        one_premise (counted inputs value (reaches i (suc j))) (named_true (counted inputs value) (opposite x) || (counted inputs value (reaches (suc i) (suc (suc j))) || false)) (λ r.
-        input_unless_back (counted inputs value x.meaning) x.positive (counted inputs value (reaches (suc i) (suc (suc j))) || false) (λ h.
-        alone_back (counted inputs value (reaches (suc i) (suc (suc j)))) ((counting (named_true value) inputs columns).counted i (suc j) x is.0 of
+        one_premise (with_counts inputs value (reaches i (suc j))) (named_true (with_counts inputs value) (opposite x) || (with_counts inputs value (reaches (suc i) (suc (suc j))) || false)) (λ r.
+        input_unless_back (with_counts inputs value x.meaning) x.positive (with_counts inputs value (reaches (suc i) (suc (suc j))) || false) (λ h.
+        alone_back (with_counts inputs value (reaches (suc i) (suc (suc j)))) ((counting (named_true value) inputs columns).counted i (suc j) x is.0 of
         (sym (same_input x (contains_at inputs i x is.0)) ∙ h) (inr (low is.1, r)))))
       where
         low : (suc j ≡ 0) ⊎ (1 ≤ i) → 1 ≤ i
         low (inl none) = absurd (omega arith)
         low (inr some) = some
 
-  bound_holds : (k : ℕ) → count_by (named_true value) inputs ≤ k → counted inputs value (reaches (length inputs) (suc k)) ≡ false
+  bound_holds : (k : ℕ) → count_by (named_true value) inputs ≤ k → with_counts inputs value (reaches (length inputs) (suc k)) ≡ false
   bound_holds k few = none (nat_le (suc k) (count_by (named_true value) (take (length inputs) inputs))) (λ h.
       let more = leb-true (suc k) (count_by (named_true value) (take (length inputs) inputs)) h in
       let all_taken = ap (count_by (named_true value)) (take_all (length inputs) inputs (omega arith)) in
@@ -314,7 +314,7 @@ module _ (inputs : List NamedLiteral) (value : Meaning → Bool) where
 pub named_count_is_exact : NamedCountIsExact
 named_count_is_exact inputs value = record {
   others = others_stay inputs value;
-  free = λ plain columns named is. subst (λ literals. IsTrue (named_clause_true (counted inputs value) literals)) is.3 (holds_by_name inputs value plain columns is.0 is.1 is.2);
+  free = λ plain columns named is. subst (λ literals. IsTrue (named_clause_true (with_counts inputs value) literals)) is.3 (holds_by_name inputs value plain columns is.0 is.1 is.2);
   bound = bound_holds inputs value;
   few = named_few inputs value;
 }

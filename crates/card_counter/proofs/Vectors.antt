@@ -5,7 +5,7 @@ use Rattle.prop_core.specs.VariableNames.{reaches, happens, yes, no}
 use Rattle.card_counter.specs.AtMostOne.{excluded_pairs}
 use Rattle.card_counter.specs.CounterClauses.{counts_on, counts_up, count_clause}
 use Rattle.card_counter.specs.CounterState.{CounterState, positive, negative, counter_clauses, counter_meanings, bound_literal, without_columns, with_column, next_clauses, next_meanings, with_input, with_inputs, inputs_clauses}
-use Rattle.card_counter.specs.Counting.{true_count, counted}
+use Rattle.card_counter.specs.Counting.{true_count, with_counts}
 use Rattle.card_counter.specs.Rows.{counter_of}
 
 -- ---- pairs
@@ -101,8 +101,8 @@ first_counts = refl
 keeps : count_clause (counts_on 1 2) ≡ no (reaches 1 2) ∷ yes (reaches 2 2) ∷ []
 keeps = refl
 
-counted_so : counted (yes (happens 0 1) ∷ no (happens 1 1) ∷ []) (λ name. true) (reaches 2 1) ≡ true
+counted_so : with_counts (yes (happens 0 1) ∷ no (happens 1 1) ∷ []) (λ name. true) (reaches 2 1) ≡ true
 counted_so = refl
 
-counted_not : counted (yes (happens 0 1) ∷ no (happens 1 1) ∷ []) (λ name. true) (reaches 2 2) ≡ false
+counted_not : with_counts (yes (happens 0 1) ∷ no (happens 1 1) ∷ []) (λ name. true) (reaches 2 2) ≡ false
 counted_not = refl

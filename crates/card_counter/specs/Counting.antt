@@ -52,23 +52,23 @@ is_count (reaches i j) = true
 is_count (some_of_first family i) = false
 
 -- the truth of meanings by which the first i inputs reach j exactly if at least j of them are true
-abbrev pub counted : List NamedLiteral → (Meaning → Bool) → Meaning → Bool
-counted inputs value (in_state c q t) = value (in_state c q t)
-counted inputs value (happens e t) = value (happens e t)
-counted inputs value asked = value asked
-counted inputs value (matches i e t) = value (matches i e t)
-counted inputs value (done i t) = value (done i t)
-counted inputs value (unmatched e k t) = value (unmatched e k t)
-counted inputs value (closed e k) = value (closed e k)
-counted inputs value (dropped i) = value (dropped i)
-counted inputs value (reaches i j) = nat_le j (count_by (named_true value) (take i inputs))
-counted inputs value (some_of_first family i) = value (some_of_first family i)
+abbrev pub with_counts : List NamedLiteral → (Meaning → Bool) → Meaning → Bool
+with_counts inputs value (in_state c q t) = value (in_state c q t)
+with_counts inputs value (happens e t) = value (happens e t)
+with_counts inputs value asked = value asked
+with_counts inputs value (matches i e t) = value (matches i e t)
+with_counts inputs value (done i t) = value (done i t)
+with_counts inputs value (unmatched e k t) = value (unmatched e k t)
+with_counts inputs value (closed e k) = value (closed e k)
+with_counts inputs value (dropped i) = value (dropped i)
+with_counts inputs value (reaches i j) = nat_le j (count_by (named_true value) (take i inputs))
+with_counts inputs value (some_of_first family i) = value (some_of_first family i)
 
 -- Whatever the truth of the inputs, of which none is a meaning of a counter, the count makes the clauses true, with at most k where at most k inputs are true; and where the clauses are true, at most k says so.
 pub record CountsByName (inputs : List NamedLiteral) (value : Meaning → Bool) : Type 0 where
-  pub others : (meaning : Meaning) → is_count meaning ≡ false → counted inputs value meaning ≡ value meaning
-  pub free : ((x : NamedLiteral) → Contains inputs x → is_count x.meaning ≡ false) → (columns : ℕ) → AllHold (IsNamedCount inputs columns) (counted inputs value)
-  pub bound : (k : ℕ) → count_by (named_true value) inputs ≤ k → counted inputs value (reaches (length inputs) (suc k)) ≡ false
+  pub others : (meaning : Meaning) → is_count meaning ≡ false → with_counts inputs value meaning ≡ value meaning
+  pub free : ((x : NamedLiteral) → Contains inputs x → is_count x.meaning ≡ false) → (columns : ℕ) → AllHold (IsNamedCount inputs columns) (with_counts inputs value)
+  pub bound : (k : ℕ) → count_by (named_true value) inputs ≤ k → with_counts inputs value (reaches (length inputs) (suc k)) ≡ false
   pub few : (columns k : ℕ) → AllHold (IsNamedCount inputs columns) value → k < columns → value (reaches (length inputs) (suc k)) ≡ false → count_by (named_true value) inputs ≤ k
 
 -- This holds for all inputs, by each truth of meanings.

@@ -7,10 +7,10 @@ place_after place [] = place
 place_after place (byte ∷ bytes) = place_after ((place * 31 + byte) % 4096) bytes
 
 -- the place that a label leads to
-abbrev pub place_of : List ℕ → ℕ
-place_of label = place_after 0 label
+abbrev pub mark_place : List ℕ → ℕ
+mark_place label = place_after 0 label
 
 -- there are 4096 marks, and one at the place of each of the first n labels
-pub record AreMarked (marks : List Bool) (labels : List (List ℕ)) (n : ℕ) : Type 0 where
+pub record HaveMarks (marks : List Bool) (labels : List (List ℕ)) (n : ℕ) : Type 0 where
   pub long : length marks ≡ 4096
-  pub each : (i : ℕ) (d : List ℕ) → i < n → slice_index_or marks (place_of (slice_index_or labels i d)) false ≡ true
+  pub each : (i : ℕ) (d : List ℕ) → i < n → slice_index_or marks (mark_place (slice_index_or labels i d)) false ≡ true

@@ -1,7 +1,7 @@
 // A set of labels.
 ghost use Rattle.std.specs.Prelude.{◌≡◌, ◌<◌, bytes_eq, length};
 ghost use Rattle.std.specs.List.{list_any};
-ghost use Rattle.label_sets.specs.Places.{place_of};
+ghost use Rattle.label_sets.specs.Places.{mark_place};
 ghost use Rattle.replay.specs.Explanation.{has_any_label};
 
 use des_base::{EventId, Name};
@@ -21,13 +21,13 @@ pub struct LabelSet<'a> {
 
 impl<'a> Model for LabelSet<'a> {
     ghost use Rattle.std.specs.Prelude.{List, ℕ, length};
-    ghost use Rattle.label_sets.specs.Places.{AreMarked};
+    ghost use Rattle.label_sets.specs.Places.{HaveMarks};
 
     ghost Value = { List (List ℕ) };
 
     ghost view = { λ a. a.labels.now };
 
-    ghost invariant = { λ a. AreMarked a.marks a.labels.now (length a.labels.now) };
+    ghost invariant = { λ a. HaveMarks a.marks a.labels.now (length a.labels.now) };
 }
 
 impl<'a> LabelSet<'a> {
@@ -37,7 +37,7 @@ impl<'a> LabelSet<'a> {
     {
         let mut marks = [false; PLACES];
         for label in labels {
-            marks[place_of(label)] = true;
+            marks[mark_place(label)] = true;
         }
         LabelSet { labels, marks }
     }
@@ -46,7 +46,7 @@ impl<'a> LabelSet<'a> {
     pub fn has(&self, label: &Name) -> bool
         ensures { result ≡ list_any (bytes_eq label.now) self.now }
     {
-        self.marks[place_of(label)] && has_label(self.labels, label)
+        self.marks[mark_place(label)] && has_label(self.labels, label)
     }
 
     /// Whether the event can be seen, and by a label of the set.
@@ -62,8 +62,8 @@ impl<'a> LabelSet<'a> {
 }
 
 // The place that a label leads to.
-fn place_of(label: &Name) -> usize
-    ensures is { result ≡ place_of label.now }
+fn mark_place(label: &Name) -> usize
+    ensures is { result ≡ mark_place label.now }
     ensures within { result < PLACES }
 {
     let mut place = 0;

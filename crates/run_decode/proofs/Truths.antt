@@ -2,7 +2,7 @@
 use Rattle.std.proofs.Common.{◌≡◌, ◌∙◌, ℕ, zero, suc, ◌≤◌, ◌⊎◌, inl, inr, Bool, true, false, not, ◌||◌, List, [], ◌∷◌, ◌++◌, length, Option, Some, None, refl, sym, ap, subst, arith, Contains, slice_get, IsTrue, count_by, map}
 use Rattle.std.specs.List.{AllByRecursion, AllZip, list_any}
 use Rattle.card_counter.proofs.Exact.{named_count_is_exact}
-use Rattle.card_counter.specs.Counting.{is_count, counted}
+use Rattle.card_counter.specs.Counting.{is_count, with_counts}
 use Rattle.card_counter.specs.CounterClauses.{IsNamedCount}
 use Rattle.des_base.proofs.BoolLemmas.{either, not_true}
 use Rattle.des_base.proofs.Elements.{flat_from, map_from}
@@ -67,18 +67,18 @@ inputs_are_named net log n x in' =
     by meaning (inr of_alarm) = let alarm = map_from (λ i. dropped i) (doubtful_alarms log) meaning of_alarm in subst (λ m. is_count m ≡ false) alarm.2 refl
 
 -- the count goes with every truth of the steps and the log
-pub count_holds : (net : Net) (log : Log) (n : ℕ) (value : Meaning → Bool) → StepClausesHold net n value → LogClausesHold net log n value → QuestionHolds net log n (counted (fault_inputs net log n) value)
+pub count_holds : (net : Net) (log : Log) (n : ℕ) (value : Meaning → Bool) → StepClausesHold net n value → LogClausesHold net log n value → QuestionHolds net log n (with_counts (fault_inputs net log n) value)
 count_holds net log n value steps logged =
     let exact = named_count_is_exact (fault_inputs net log n) value in record {
-      steps = only_steps_matter net n value (counted (fault_inputs net log n) value) (record { states = λ c q t. refl; events = λ e t. refl; chains = λ family k of_steps. refl }) steps;
-      logged = (only_log_matters net log n value (counted (fault_inputs net log n) value) (λ meaning h. sym (exact.others meaning (not_count meaning h)))).0 logged;
+      steps = only_steps_matter net n value (with_counts (fault_inputs net log n) value) (record { states = λ c q t. refl; events = λ e t. refl; chains = λ family k of_steps. refl }) steps;
+      logged = (only_log_matters net log n value (with_counts (fault_inputs net log n) value) (λ meaning h. sym (exact.others meaning (not_count meaning h)))).0 logged;
       count = exact.free (inputs_are_named net log n);
     }
 
-guards_hold : (net : Net) (log : Log) (n : ℕ) (value : Meaning → Bool) → GuardsHold net log value → GuardsHold net log (counted (fault_inputs net log n) value)
+guards_hold : (net : Net) (log : Log) (n : ℕ) (value : Meaning → Bool) → GuardsHold net log value → GuardsHold net log (with_counts (fault_inputs net log n) value)
 guards_hold net log n value guards =
     let exact = named_count_is_exact (fault_inputs net log n) value in
-    (only_log_matters net log n value (counted (fault_inputs net log n) value) (λ meaning h. sym (exact.others meaning (not_count meaning h)))).1 guards
+    (only_log_matters net log n value (with_counts (fault_inputs net log n) value) (λ meaning h. sym (exact.others meaning (not_count meaning h)))).1 guards
 
 -- ---- the bound
 
@@ -86,10 +86,10 @@ at_most_true : (value : Meaning → Bool) (m b : ℕ) → value (reaches m (suc 
 at_most_true value zero b h = tt
 at_most_true value (suc m) b h = (ap not h, tt)
 
-pub bound_holds : (net : Net) (log : Log) (n : ℕ) (bound : Option ℕ) (value : Meaning → Bool) → IsWithin bound (true_faults net log n value) → BoundHolds net log n bound (counted (fault_inputs net log n) value)
+pub bound_holds : (net : Net) (log : Log) (n : ℕ) (bound : Option ℕ) (value : Meaning → Bool) → IsWithin bound (true_faults net log n value) → BoundHolds net log n bound (with_counts (fault_inputs net log n) value)
 bound_holds net log n None value within = tt
 bound_holds net log n (Some b) value within =
-    at_most_true (counted (fault_inputs net log n) value) (length (fault_inputs net log n)) b ((named_count_is_exact (fault_inputs net log n) value).bound b within)
+    at_most_true (with_counts (fault_inputs net log n) value) (length (fault_inputs net log n)) b ((named_count_is_exact (fault_inputs net log n) value).bound b within)
 
 none_counted : (p : NamedLiteral → Bool) (xs : List NamedLiteral) → length xs ≡ 0 → count_by p xs ≡ 0
 none_counted p [] h = refl
@@ -131,10 +131,10 @@ explained_has_truth net log n bound word order network explains within =
     let same : AgreeOnSteps given.0 made.0 = record { states = λ c q t. sym (made.1 (in_state c q t) refl); events = λ e t. sym (made.1 (happens e t) refl); chains = λ family k of_steps. sym (made.1 (some_of_first family k) (ap not of_steps)) } in
     let are = same_sets net n given.0 made.0 pieces (λ e t known step. made.1 (happens e (suc t)) refl) steps in
     let faults : faults_of net word order ≡ true_faults net log n made.0 = ap (λ w. faults_of net w order) cut.whole ∙ faults_are_inputs net log n made.0 pieces order are made.4 in record {
-      value = counted (fault_inputs net log n) made.0;
+      value = with_counts (fault_inputs net log n) made.0;
       pieces = pieces;
       whole = cut.whole;
-      steps = same_sets net n made.0 (counted (fault_inputs net log n) made.0) pieces (λ e t known step. refl) are;
+      steps = same_sets net n made.0 (with_counts (fault_inputs net log n) made.0) pieces (λ e t known step. refl) are;
       false_alarms = made.4;
       holds = count_holds net log n made.0 (only_steps_matter net n given.0 made.0 same clauses) made.2;
       guards = guards_hold net log n made.0 made.3;
@@ -187,4 +187,4 @@ question_has_truth net log n network =
     let clauses = subst (λ m. StepClausesHold net m given.0) blank.size given.1 in
     let open' = log_is_open given.0 in
     let steps = only_steps_matter net n given.0 (opened given.0) (record { states = λ c q t. refl; events = λ e t. refl; chains = same_chains given.0 }) clauses in
-    (counted (fault_inputs net log n) (opened given.0), count_holds net log n (opened given.0) steps (λ which is. open'.1 net log n which is))
+    (with_counts (fault_inputs net log n) (opened given.0), count_holds net log n (opened given.0) steps (λ which is. open'.1 net log n which is))

@@ -5,11 +5,11 @@ use Rattle.std.specs.List.{list_any}
 use Rattle.label_sets.proofs.Marked.{sifted}
 use Rattle.label_sets.proofs.label_set.LabelSet.has.Goals as goal
 
-pub returns-else-self-place_of : goal.returns-else-self-place_of
-returns-else-self-place_of c =
+pub returns-else-self-mark_place : goal.returns-else-self-mark_place
+returns-else-self-mark_place c =
     let marks : List Bool = c.self.inside.marks in
     let label : List ℕ = c.args.label.now in
     let labels : List (List ℕ) = c.self.inside.labels.now in
-    c.if-self-place_of.false
-    ∙ sym (sifted marks label labels c.self.invariant ∙ ap (λ b. b && list_any (bytes_eq label) labels) (ap (λ p. get_or marks p false) (sym c.place_of.ensures.is) ∙ c.if-self-place_of.false))
+    c.if-self-mark_place.false
+    ∙ sym (sifted marks label labels c.self.invariant ∙ ap (λ b. b && list_any (bytes_eq label) labels) (ap (λ p. get_or marks p false) (sym c.mark_place.ensures.is) ∙ c.if-self-mark_place.false))
     ∙ ap (λ (ls : List (List ℕ)). list_any (bytes_eq label) ls) c.self.view_is

@@ -1,10 +1,10 @@
 -- what comes leads from here to the label's place
 use Rattle.std.proofs.Common.{◌≡◌, ◌<◌, drop}
-use Rattle.label_sets.specs.Places.{place_after, place_of}
-use Rattle.label_sets.proofs.label_set.place_of.Given as goal
+use Rattle.label_sets.specs.Places.{place_after, mark_place}
+use Rattle.label_sets.proofs.label_set.mark_place.Given as goal
 
 abbrev pub invariant-loop-byte : goal.invariant-loop-byte
 invariant-loop-byte l = record {
-  is : place_after l.place (drop l.byte-index l.label) ≡ place_of l.label;
+  is : place_after l.place (drop l.byte-index l.label) ≡ mark_place l.label;
   within : l.place < 4096;
 }
