@@ -29,7 +29,7 @@ import tempfile
 from measure import timed
 from scratch import built
 
-USED = ["des_base", "prop_core", "card_counter", "des_net", "indep", "run_clauses", "step_encode"]
+USED = ["des_base", "prop_core", "card_counter", "des_net", "indep", "log_order", "replay", "question_clauses", "step_encode"]
 CASES = [(10, 20), (100, 2), (100, 20), (100, 100), (2, 1000)]
 
 

@@ -10,7 +10,7 @@ use Rattle.des_net.specs.Building.{IsDraft}
 use Rattle.des_net.specs.Network.{Net}
 use Rattle.least_faults.specs.Parts.{AreParts, IsWithinLimits}
 use Rattle.least_faults.specs.declared.TheConstants.{MOST_SIZE}
-use Rattle.log_clauses.specs.Additions.{Addition, alarm_added, pair_added, with_addition}
+use Rattle.question_clauses.specs.Additions.{Addition, alarm_added, pair_added, with_addition}
 use Rattle.log_encode.specs.CodedLog.{addition_width, nameless}
 use Rattle.log_encode.specs.Drafted.{DraftState, IsDraftOf}
 use Rattle.log_order.specs.Adding.{with_alarm, with_texts}

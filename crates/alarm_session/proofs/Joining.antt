@@ -12,7 +12,7 @@ use Rattle.least_faults.specs.Adding.{AddsFew, HasAddition, KeepsAllButRoom}
 use Rattle.least_faults.specs.Bounds.{question_variables}
 use Rattle.least_faults.specs.Parts.{AreParts, AreReady, IsWithinLimits, built_of}
 use Rattle.least_faults.specs.declared.parts.Parts.{Parts}
-use Rattle.log_clauses.specs.Additions.{Addition, pair_added, with_addition}
+use Rattle.question_clauses.specs.Additions.{Addition, pair_added, with_addition}
 use Rattle.log_encode.specs.Drafted.{DraftState, IsDraftOf}
 use Rattle.log_order.specs.Log.{Log, has_pair}
 use Rattle.proof_ledger.specs.Book.{axioms_of}

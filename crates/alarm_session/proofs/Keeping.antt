@@ -13,7 +13,7 @@ use Rattle.least_faults.specs.Adding.{AddsFew, HasAddition, KeepsAllButRoom}
 use Rattle.least_faults.specs.Bounds.{question_variables}
 use Rattle.least_faults.specs.Parts.{AreParts, BelongTo, IsWithinLimits}
 use Rattle.least_faults.specs.declared.parts.Parts.{Parts}
-use Rattle.log_clauses.specs.Additions.{Addition, alarm_added, pair_added, with_addition}
+use Rattle.question_clauses.specs.Additions.{Addition, alarm_added, pair_added, with_addition}
 use Rattle.log_encode.proofs.WrittenLemmas.{count_same}
 use Rattle.log_encode.specs.CodedLog.{CodedLog, addition_width, code_after, nameless, without_names}
 use Rattle.log_encode.specs.Drafted.{DraftState}

@@ -4,8 +4,8 @@ use Rattle.alarm_session.specs.Labelled.{labelled_count}
 use Rattle.des_base.specs.Lists.{numbers_below}
 use Rattle.des_net.specs.Network.{Net}
 use Rattle.des_net.specs.QuestionSize.{component_sizes, counter_size}
-use Rattle.log_clauses.proofs.Drafts.{doubtful_more, longer, same_count, sum_more}
-use Rattle.log_clauses.specs.Additions.{alarm_added, pair_added, with_addition}
+use Rattle.question_clauses.proofs.Drafts.{doubtful_more, longer, same_count, sum_more}
+use Rattle.question_clauses.specs.Additions.{alarm_added, pair_added, with_addition}
 use Rattle.log_encode.proofs.TakenLemmas.{suits_new}
 use Rattle.log_encode.proofs.WrittenLemmas.{count_same}
 use Rattle.log_encode.specs.CodedLog.{nameless, without_names}

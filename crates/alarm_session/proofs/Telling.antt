@@ -10,7 +10,7 @@ use Rattle.least_faults.proofs.Posing.{poses}
 use Rattle.least_faults.specs.Bounds.{coded_clauses}
 use Rattle.least_faults.specs.Evidence.{IsPosed}
 use Rattle.least_faults.specs.Parts.{meanings_of_parts}
-use Rattle.log_clauses.specs.LogClauses.{guard_literals}
+use Rattle.question_clauses.specs.LogClauses.{guard_literals}
 use Rattle.log_encode.proofs.WrittenLemmas.{count_same}
 use Rattle.log_encode.specs.CodedLog.{read_meanings, without_names}
 use Rattle.log_order.specs.Log.{IsValidLog}

@@ -7,7 +7,7 @@ use Rattle.alarm_session.specs.Rows.{log_after_rows, row_refusal, script_built}
 use Rattle.alarm_session.specs.declared.refusal.SessionRefusal.TheVariants.{Double, Unknown, Cycle, NoLabels, TooLarge}
 use Rattle.des_net.specs.Models.{masked, pump}
 use Rattle.least_faults.specs.Columns.{columns_built}
-use Rattle.log_clauses.specs.Additions.{pair_added}
+use Rattle.question_clauses.specs.Additions.{pair_added}
 use Rattle.log_csv.specs.Reading.{refusal_code}
 use Rattle.log_csv.specs.declared.row.Row.{Row}
 use Rattle.log_csv.specs.declared.row.Row.TheVariants.{Alarm, Maybe, Before, Ask}

@@ -1,6 +1,6 @@
 -- What a session adds to its question: the log of a question has no names of alarms.
 use Rattle.std.specs.Prelude.{ℕ, Bool, List, [], Option, Some, None, if◌then◌else◌}
-use Rattle.log_clauses.specs.Additions.{Addition, alarm_added, pair_added}
+use Rattle.question_clauses.specs.Additions.{Addition, alarm_added, pair_added}
 use Rattle.log_encode.specs.CodedLog.{nameless}
 use Rattle.log_order.specs.Adding.{with_texts}
 use Rattle.log_order.specs.Log.{Log, has_pair}

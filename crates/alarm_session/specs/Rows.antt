@@ -13,7 +13,7 @@ use Rattle.des_net.specs.Network.{Net}
 use Rattle.least_faults.specs.Adding.{AddsFew}
 use Rattle.least_faults.specs.Columns.{columns_built}
 use Rattle.answers.specs.declared.found.Found.{Found}
-use Rattle.log_clauses.specs.Additions.{Addition}
+use Rattle.question_clauses.specs.Additions.{Addition}
 use Rattle.log_csv.specs.declared.row.Row.{Row}
 use Rattle.log_csv.specs.declared.row.Row.TheVariants.{Alarm, Maybe, Before, Ask}
 use Rattle.log_order.specs.Adding.{with_alarm}

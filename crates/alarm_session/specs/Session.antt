@@ -14,7 +14,7 @@ use Rattle.least_faults.specs.Evidence.{IsPosed}
 use Rattle.least_faults.specs.Growing.{HasGrownWithin}
 use Rattle.least_faults.specs.Parts.{AreParts, AreReady, BelongTo, IsWithinLimits, built_of}
 use Rattle.answers.specs.declared.found.Found.{Found}
-use Rattle.log_clauses.specs.Additions.{Addition, with_addition}
+use Rattle.question_clauses.specs.Additions.{Addition, with_addition}
 use Rattle.log_encode.specs.Drafted.{IsDraftOf}
 use Rattle.log_order.specs.Log.{Log, no_log}
 use Rattle.proof_ledger.specs.Book.{BookEntry, axiomatic, axioms_of, clauses_of, IsValidBook}

@@ -6,7 +6,7 @@ ghost use Rattle.alarm_session.specs.Refusals.{refusal_of_alarm, refusal_of_befo
 ghost use Rattle.alarm_session.specs.Session.{Becomes, IsDraftedFor, IsFor, IsRankedKept, stage_of};
 ghost use Rattle.least_faults.specs.Parts.{AreParts};
 ghost use Rattle.least_faults.specs.declared.TheConstants.{MOST_SIZE};
-ghost use Rattle.log_clauses.specs.Additions.{pair_added};
+ghost use Rattle.question_clauses.specs.Additions.{pair_added};
 ghost use Rattle.log_order.specs.Adding.{with_alarm};
 ghost use Rattle.log_order.specs.Certainty.{leaves_doubt};
 ghost use Rattle.log_order.specs.Log.{has_pair};

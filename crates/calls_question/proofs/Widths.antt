@@ -8,9 +8,9 @@ use Rattle.des_base.specs.ChainCount.{chain_count}
 use Rattle.des_base.specs.Lists.{numbers_below}
 use Rattle.des_base.specs.declared.TheConstants.{VAR_LIMIT}
 use Rattle.des_net.specs.Network.{Net, label_of, observable_events}
-use Rattle.log_clauses.specs.Additions.{alarm_added, with_addition}
-use Rattle.log_clauses.specs.Drafts.{taken_events}
-use Rattle.log_clauses.specs.LogNames.{first_meanings}
+use Rattle.question_clauses.specs.Additions.{alarm_added, with_addition}
+use Rattle.question_clauses.specs.Drafts.{taken_events}
+use Rattle.question_clauses.specs.LogNames.{first_meanings}
 use Rattle.log_encode.proofs.TakenLemmas.{width_is, map_count, false_is_small, unlinked, events_again}
 use Rattle.log_encode.specs.CodedLog.{CodedLog, addition_width, nameless}
 use Rattle.prop_core.specs.VariableNames.{closed}

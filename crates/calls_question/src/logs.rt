@@ -1,7 +1,7 @@
 // The log of two alarms on two components that don't meet, by a truth of its variables that was found by hand.
 ghost use Rattle.std.specs.Prelude.{◌≡◌, ◌+◌, ◌≤◌};
 ghost use Rattle.calls_question.specs.Grown.{IsGrown};
-ghost use Rattle.log_clauses.specs.Additions.{alarm_added};
+ghost use Rattle.question_clauses.specs.Additions.{alarm_added};
 ghost use Rattle.log_encode.specs.CodedLog.{nameless, code_after};
 ghost use Rattle.log_encode.specs.Drafted.{IsDraftOf};
 

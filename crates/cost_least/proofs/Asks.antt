@@ -6,11 +6,11 @@ use Rattle.std.proofs.lemmas.List.Elements.{Contains-append_left, Contains-appen
 use Rattle.card_counter.specs.CounterState.{CounterState, counter_meanings}
 use Rattle.des_net.specs.Network.{IsNetwork}
 use Rattle.least_faults.proofs.Below.{AreBelow, names_below}
-use Rattle.log_clauses.specs.LogClauses.{guard_literals, doubtful_alarms}
+use Rattle.question_clauses.specs.LogClauses.{guard_literals, doubtful_alarms}
 use Rattle.log_encode.specs.CodedLog.{CodedLog, read_meanings, without_names, log_meanings}
-use Rattle.log_clauses.specs.LogCodes.{AreAmong}
+use Rattle.question_clauses.specs.LogCodes.{AreAmong}
 use Rattle.log_order.specs.Log.{Log, IsValidLog}
-use Rattle.log_clauses.proofs.Codes.{named_entry}
+use Rattle.question_clauses.proofs.LogCodes.{named_entry}
 use Rattle.prop_core.specs.Clauses.{Clause}
 use Rattle.prop_core.specs.VariableNames.{Meaning, dropped, meaning_of, ReadsAs, named_clause, yes}
 use Rattle.run_decode.proofs.Nameless.{alarm_names_dont_matter, nameless_inputs}

@@ -9,9 +9,9 @@ use Rattle.des_base.proofs.Elements.{all_change, all_from, cons_cases, here_firs
 use Rattle.des_base.specs.Lists.{numbers_below}
 use Rattle.des_net.specs.Network.{Net}
 use Rattle.event_costs.specs.declared.TheConstants.{MOST_COST}
-use Rattle.log_clauses.proofs.Codes.{has_name, named_entry}
-use Rattle.log_clauses.proofs.Lists.{all_at}
-use Rattle.log_clauses.specs.LogClauses.{guard_literals}
+use Rattle.question_clauses.proofs.LogCodes.{has_name, named_entry}
+use Rattle.question_clauses.proofs.Lists.{all_at}
+use Rattle.question_clauses.specs.LogClauses.{guard_literals}
 use Rattle.log_order.specs.Log.{Log}
 use Rattle.prop_core.specs.Clauses.{Clause, negation}
 use Rattle.prop_core.specs.FurtherNames.{LiteralOf, holds, fails, lifted, lifted_meanings, AreOnce, IsCalled, ReadsBy, AreDrawnBy}

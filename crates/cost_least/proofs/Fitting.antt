@@ -14,7 +14,7 @@ use Rattle.least_faults.proofs.QuestionRoom.{question_room}
 use Rattle.least_faults.specs.Bounds.{question_variables}
 use Rattle.least_faults.specs.Parts.{AreParts}
 use Rattle.least_faults.specs.declared.TheConstants.{MOST_SIZE}
-use Rattle.log_clauses.specs.LogCodes.{AreAmong}
+use Rattle.question_clauses.specs.LogCodes.{AreAmong}
 use Rattle.log_encode.specs.CodedLog.{CodedLog, log_meanings}
 use Rattle.log_order.specs.Log.{Log}
 use Rattle.prop_core.specs.Clauses.{Clause, HasValues}

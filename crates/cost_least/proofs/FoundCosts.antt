@@ -8,8 +8,8 @@ use Rattle.std.proofs.lemmas.List.Elements.{Contains-append_right}
 use Rattle.des_base.specs.Names.{AreDistinct}
 use Rattle.des_net.specs.Network.{Net, IsNetwork}
 use Rattle.des_net.specs.Width.{joined}
-use Rattle.log_clauses.specs.Decoded.{decoded, decoded_order}
-use Rattle.log_clauses.specs.LogCodes.{AreAmong}
+use Rattle.question_clauses.specs.Decoded.{decoded, decoded_order}
+use Rattle.question_clauses.specs.LogCodes.{AreAmong}
 use Rattle.log_encode.specs.CodedLog.{CodedLog, without_names, log_meanings}
 use Rattle.log_order.proofs.LeastOrder.{least_order-is}
 use Rattle.log_order.specs.Log.{Log, IsValidLog, ListsOnce}

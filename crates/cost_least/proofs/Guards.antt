@@ -1,6 +1,6 @@
 -- The guards of a log are its guard literals by the names of their variables, in order.
 use Rattle.std.proofs.Common.{◌≡◌, List, Some}
-use Rattle.log_clauses.specs.LogClauses.{guard_literals}
+use Rattle.question_clauses.specs.LogClauses.{guard_literals}
 use Rattle.log_encode.proofs.CodeLemmas.{beside}
 use Rattle.log_encode.specs.CodedLog.{CodedLog, IsCodedLog, read_meanings}
 use Rattle.prop_core.proofs.Listed.{clause_written}

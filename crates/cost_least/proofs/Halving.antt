@@ -13,7 +13,7 @@ use Rattle.least_faults.proofs.Putting.{learnt_no_final, no_final_in, none_joine
 use Rattle.least_faults.specs.Asking.{PutsNoFinal}
 use Rattle.least_faults.specs.Evidence.{HasFinal, HasLastFinal, is_final}
 use Rattle.run_decode.proofs.Faults.{count_append}
-use Rattle.log_clauses.proofs.Lists.{all_at}
+use Rattle.question_clauses.proofs.Lists.{all_at}
 use Rattle.log_encode.specs.CodedLog.{CodedLog}
 use Rattle.proof_ledger.specs.Book.{BookEntry, final, axioms_of, clauses_of, IsValidBook}
 use Rattle.prop_core.specs.Clauses.{Clause, HasValues, negation, NegatesOnly}

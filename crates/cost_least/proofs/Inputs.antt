@@ -4,8 +4,8 @@ use Rattle.std.specs.List.{AllZip}
 use Rattle.std.proofs.lemmas.List.{map-append, length-map}
 use Rattle.des_base.specs.Lists.{numbers_below}
 use Rattle.des_net.specs.Network.{Net}
-use Rattle.log_clauses.proofs.Codes.{read_of}
-use Rattle.log_clauses.specs.LogClauses.{doubtful_alarms}
+use Rattle.question_clauses.proofs.LogCodes.{read_of}
+use Rattle.question_clauses.specs.LogClauses.{doubtful_alarms}
 use Rattle.log_encode.specs.CodedLog.{false_literals}
 use Rattle.log_order.specs.Log.{Log}
 use Rattle.prop_core.specs.VariableNames.{Meaning, happens, dropped, NamedLiteral, yes, meaning_of, named_literal, named_clause}

@@ -9,7 +9,7 @@ use Rattle.des_base.proofs.NumbersBelow.{filter_numbers_yes, filter_numbers_no}
 use Rattle.des_base.specs.Lists.{numbers_below}
 use Rattle.des_net.specs.Network.{Net, is_fault}
 use Rattle.prop_core.specs.declared.grid.Grid.{Grid}
-use Rattle.run_clauses.proofs.Lists.{from_numbers}
+use Rattle.question_clauses.proofs.Lists.{from_numbers}
 use Rattle.weight_counter.specs.declared.weighted.Weighted.{Weighted}
 use Rattle.step_encode.specs.Coded.{CodedSteps, code_grid}
 use Rattle.log_encode.specs.CodedLog.{CodedLog}

@@ -8,7 +8,7 @@ use Rattle.least_faults.proofs.Putting.{learnt_no_final}
 use Rattle.least_faults.specs.Asking.{PutsNoFinal}
 use Rattle.least_faults.specs.Parts.{BelongTo}
 use Rattle.least_faults.specs.declared.parts.Parts.{Parts}
-use Rattle.log_clauses.specs.LogClauses.{guard_literals}
+use Rattle.question_clauses.specs.LogClauses.{guard_literals}
 use Rattle.log_encode.specs.CodedLog.{read_meanings}
 use Rattle.log_order.specs.Log.{Log, IsValidLog}
 use Rattle.proof_ledger.specs.Book.{BookEntry, axioms_of, IsValidBook}

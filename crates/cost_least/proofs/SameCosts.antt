@@ -6,7 +6,7 @@ use Rattle.card_counter.specs.CounterState.{CounterState}
 use Rattle.des_base.specs.Lists.{numbers_below}
 use Rattle.des_net.specs.Network.{Net, Event, is_fault, no_event}
 use Rattle.event_costs.specs.declared.TheConstants.{MOST_COST}
-use Rattle.log_clauses.specs.LogClauses.{doubtful_alarms}
+use Rattle.question_clauses.specs.LogClauses.{doubtful_alarms}
 use Rattle.log_encode.specs.CodedLog.{CodedLog}
 use Rattle.log_order.specs.Log.{Log}
 use Rattle.proof_ledger.specs.Book.{BookEntry}

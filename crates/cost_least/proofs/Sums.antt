@@ -9,12 +9,12 @@ use Rattle.des_net.specs.Width.{joined}
 use Rattle.des_base.proofs.NumbersBelow.{range_once}
 use Rattle.des_base.proofs.Elements.{cons_cases, here_first, here_later, none_in_nil, all_at, filter_has, filter_from, pairs_filter}
 use Rattle.des_base.proofs.BoolLemmas.{otherwise, not_true}
-use Rattle.log_clauses.proofs.Pieces.{IsStepSet, AreFrom, pieces_are_steps}
-use Rattle.log_clauses.specs.Decoded.{is_false_alarm}
+use Rattle.question_clauses.proofs.Pieces.{IsStepSet, AreFrom, pieces_are_steps}
+use Rattle.question_clauses.specs.Decoded.{is_false_alarm}
 use Rattle.log_order.specs.Log.{Log, is_doubtful}
 use Rattle.card_counter.proofs.Counts.{count_cons}
 use Rattle.prop_core.specs.VariableNames.{Meaning, happens, dropped}
-use Rattle.run_clauses.proofs.Lists.{in_numbers, from_numbers}
+use Rattle.question_clauses.proofs.Lists.{in_numbers, from_numbers}
 use Rattle.des_base.specs.Lists.{numbers_below}
 use Rattle.step_encode.specs.FaultInputs.{fault_events}
 use Rattle.cost_least.specs.Costs.{event_cost}

@@ -1,7 +1,7 @@
 -- When clauses are drawn from the families of a question of costs: by what their variables stand for, each is a clause of the question, or one of the counter that weighs its faults.
 use Rattle.std.specs.Prelude.{◌≡◌, ◌⊎◌, ℕ, zero, suc, ◌+◌, ◌<◌, List, [], ◌∷◌, ◌++◌, length, map, Option, Some, None, slice_get, Contains}
 use Rattle.des_net.specs.Network.{Net}
-use Rattle.log_clauses.specs.LogClauses.{guard_literals}
+use Rattle.question_clauses.specs.LogClauses.{guard_literals}
 use Rattle.log_order.specs.Log.{Log}
 use Rattle.prop_core.specs.FurtherNames.{LiteralOf, holds, fails, lifted, IsLifted, AreOnce, ReadsBy}
 use Rattle.prop_core.specs.VariableNames.{Meaning}

@@ -6,15 +6,15 @@ use Rattle.des_base.specs.Lists.{numbers_below}
 use Rattle.des_net.specs.Network.{Net, IsNetwork}
 use Rattle.des_net.specs.Width.{joined}
 use Rattle.event_costs.specs.declared.TheConstants.{MOST_COST}
-use Rattle.log_clauses.specs.LogClauses.{doubtful_alarms}
-use Rattle.log_clauses.specs.LogLaws.{HasFalse}
+use Rattle.question_clauses.specs.LogClauses.{doubtful_alarms}
+use Rattle.question_clauses.specs.LogLaws.{HasFalse}
 use Rattle.log_order.specs.Log.{Log, IsValidLog}
 use Rattle.prop_core.specs.Clauses.{Clause}
 use Rattle.prop_core.specs.FurtherNames.{AreDrawnBy}
 use Rattle.prop_core.specs.VariableNames.{Meaning, happens, dropped, meaning_of}
 use Rattle.prop_core.specs.declared.lit.Lit.{Lit}
 use Rattle.replay.specs.Explanation.{Entry, Explains}
-use Rattle.run_clauses.specs.Steps.{AreSteps}
+use Rattle.question_clauses.specs.Steps.{AreSteps}
 use Rattle.run_decode.specs.Question.{Asks}
 use Rattle.run_decode.specs.Tells.{Property, Tells, AreBoth}
 use Rattle.step_encode.specs.FaultInputs.{fault_events}

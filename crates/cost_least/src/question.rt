@@ -1,5 +1,5 @@
 // What is asked about, and what the contracts of its getters say.
-ghost use Rattle.log_clauses.specs.LogClauses.{guard_literals};
+ghost use Rattle.question_clauses.specs.LogClauses.{guard_literals};
 ghost use Rattle.log_encode.specs.CodedLog.{read_meanings};
 ghost use Rattle.prop_core.specs.VariableNames.{ReadsAs};
 ghost use Rattle.cost_least.specs.Weighed.{log_guards};

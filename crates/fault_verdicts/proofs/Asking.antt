@@ -18,8 +18,8 @@ use Rattle.least_faults.proofs.Solved.{CanSearch}
 use Rattle.least_faults.specs.Asking.{AreAssumptions}
 use Rattle.least_faults.specs.Parts.{BelongTo, meanings_of_parts}
 use Rattle.least_faults.specs.declared.parts.Parts.{Parts}
-use Rattle.log_clauses.proofs.Lists.{all_at}
-use Rattle.log_clauses.specs.LogClauses.{guard_literals}
+use Rattle.question_clauses.proofs.Lists.{all_at}
+use Rattle.question_clauses.specs.LogClauses.{guard_literals}
 use Rattle.log_encode.specs.CodedLog.{CodedLog}
 use Rattle.log_order.specs.Log.{Log, IsValidLog}
 use Rattle.proof_ledger.specs.Book.{BookEntry, axioms_of}

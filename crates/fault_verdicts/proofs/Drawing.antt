@@ -9,15 +9,14 @@ use Rattle.des_net.specs.Network.{Net, is_fault}
 use Rattle.fault_verdicts.proofs.Telling.{with_told, without_told}
 use Rattle.fault_verdicts.specs.Asked.{Question, without, with_event, VerdictMeaning, of_question, occurs, in_question, some_step, no_step, IsVerdictClause, assumed_of, verdict_literals, some_step_clause, some_step_clauses, no_step_literals, made_meanings, verdict_meanings}
 use Rattle.fault_verdicts.specs.Telling.{AsksBeside, EventsArePosed}
-use Rattle.log_clauses.proofs.Codes.{has_name, named_entry}
-use Rattle.log_clauses.proofs.Lists.{all_at}
+use Rattle.question_clauses.proofs.LogCodes.{has_name, named_entry}
+use Rattle.question_clauses.proofs.Lists.{all_at, from_numbers}
 use Rattle.log_order.specs.Log.{Log}
 use Rattle.prop_core.specs.Clauses.{Clause, negation}
 use Rattle.prop_core.specs.Grids.{grid_variable}
 use Rattle.prop_core.specs.VariableNames.{Meaning, happens, NamedLiteral, ReadsAs, meaning_of}
 use Rattle.prop_core.specs.declared.grid.Grid.{Grid}
 use Rattle.prop_core.specs.declared.lit.Lit.{Lit}
-use Rattle.run_clauses.proofs.Lists.{from_numbers}
 use Rattle.run_decode.proofs.FurtherNames.{lifted_reads, once_further}
 use Rattle.run_decode.proofs.Questions.{instances_of}
 use Rattle.run_decode.specs.Drawn.{assumption_literals}

@@ -10,8 +10,8 @@ use Rattle.des_net.specs.Width.{joined}
 use Rattle.fault_verdicts.proofs.Truths.{happened, happening}
 use Rattle.fault_verdicts.specs.Judging.{at_most_of}
 use Rattle.least_faults.specs.Asking.{AreAssumptions, bound_part}
-use Rattle.log_clauses.proofs.Lists.{all_at}
-use Rattle.log_clauses.specs.Decoded.{decoded}
+use Rattle.question_clauses.proofs.Lists.{all_at}
+use Rattle.question_clauses.specs.Decoded.{decoded}
 use Rattle.log_encode.specs.CodedLog.{CodedLog, without_names}
 use Rattle.log_order.proofs.LeastOrder.{least_order-is}
 use Rattle.log_encode.proofs.WrittenLemmas.{count_same}
@@ -23,7 +23,7 @@ use Rattle.prop_core.specs.VariableNames.{Meaning, happens}
 use Rattle.prop_core.specs.declared.lit.Lit.{Lit}
 use Rattle.replay.specs.Traced.{word_of}
 use Rattle.replay.specs.declared.run.RunStep.{RunStep}
-use Rattle.run_clauses.specs.Steps.{AreSteps}
+use Rattle.question_clauses.specs.Steps.{AreSteps}
 use Rattle.run_decode.proofs.DecodeNames.{run_clauses_hold}
 use Rattle.run_decode.proofs.DecodeOrder.{bare_valid}
 use Rattle.run_decode.proofs.DecodeRuns.{are_settled, run_word}

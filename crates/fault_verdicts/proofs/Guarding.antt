@@ -4,7 +4,7 @@ use Rattle.card_counter.specs.CounterState.{CounterState, bound_literal}
 use Rattle.fault_verdicts.specs.Judging.{at_most_of, bound_for}
 use Rattle.least_faults.proofs.Assuming.{with_bound, without_bound}
 use Rattle.least_faults.specs.Asking.{AreAssumptions}
-use Rattle.log_clauses.specs.LogClauses.{guard_literals}
+use Rattle.question_clauses.specs.LogClauses.{guard_literals}
 use Rattle.log_encode.specs.CodedLog.{CodedLog, read_meanings}
 use Rattle.log_encode.specs.Drafted.{LogCodeState}
 use Rattle.prop_core.specs.VariableNames.{ReadsAs}

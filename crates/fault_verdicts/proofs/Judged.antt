@@ -15,7 +15,7 @@ use Rattle.fault_verdicts.specs.Judging.{IsAbout, verdict_of}
 use Rattle.fault_verdicts.specs.Verdicts.{IsBest}
 use Rattle.answers.specs.declared.verdict.Verdict.TheVariants.{Possible, Open}
 use Rattle.least_faults.specs.Evidence.{HasFinal}
-use Rattle.log_clauses.proofs.Lists.{all_at}
+use Rattle.question_clauses.proofs.Lists.{all_at, from_numbers, in_numbers}
 use Rattle.log_order.specs.Log.{Log}
 use Rattle.proof_ledger.specs.Book.{BookEntry}
 use Rattle.proof_ledger.specs.Fresh.{AreFresh}
@@ -29,7 +29,6 @@ use Rattle.replay.specs.Explanation.{Entry, Explains, faults_of}
 use Rattle.replay.specs.Matching.{IsWellMatched, order_of}
 use Rattle.replay.specs.Traced.{word_of}
 use Rattle.replay.specs.declared.run.RunStep.{RunStep}
-use Rattle.run_clauses.proofs.Lists.{from_numbers, in_numbers}
 use Rattle.run_decode.proofs.Tells.{told_is_refuted}
 use Rattle.run_decode.specs.Decided.{Entails}
 use Rattle.step_encode.specs.FaultInputs.{event_literal, event_literals}

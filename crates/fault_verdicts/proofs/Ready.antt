@@ -24,8 +24,8 @@ use Rattle.least_faults.specs.Growing.{AddsAxioms, KeepsQuestion}
 use Rattle.least_faults.specs.Parts.{AreReady, AreReadyBeside, BelongTo, HaveRoom, IsBuilt, built_of, meanings_of_parts}
 use Rattle.least_faults.specs.declared.TheConstants.{MOST_SIZE}
 use Rattle.least_faults.specs.declared.parts.Parts.{Parts}
-use Rattle.log_clauses.proofs.Codes.{has_name, named_entry}
-use Rattle.log_clauses.proofs.Lists.{all_at}
+use Rattle.question_clauses.proofs.LogCodes.{has_name, named_entry}
+use Rattle.question_clauses.proofs.Lists.{all_at, from_numbers}
 use Rattle.log_encode.specs.CodedLog.{CodedLog, log_meanings}
 use Rattle.log_order.specs.Log.{Log}
 use Rattle.proof_ledger.specs.Book.{BookEntry, axiomatic, axioms_of, clauses_of}
@@ -35,7 +35,6 @@ use Rattle.prop_core.specs.VariableNames.{Meaning, happens, reaches, meaning_of}
 use Rattle.prop_core.specs.declared.grid.Grid.{Grid}
 use Rattle.prop_core.specs.declared.lit.Lit.{Lit}
 use Rattle.replay.specs.QuestionSize.{doubtful_count, question_size}
-use Rattle.run_clauses.proofs.Lists.{from_numbers}
 use Rattle.run_decode.proofs.FewNames.{inputs_are_counted}
 use Rattle.run_decode.proofs.Nameless.{nameless_doubtful}
 use Rattle.run_decode.proofs.WholeNames.{together_one_naming}

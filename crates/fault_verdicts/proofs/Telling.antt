@@ -8,7 +8,7 @@ use Rattle.des_base.specs.Lists.{EachPair, numbers_below}
 use Rattle.des_net.specs.Network.{Net, IsNetwork}
 use Rattle.des_base.proofs.BoolLemmas.{either as or_cases, otherwise as as_false, clash, beq_true, beq_false, or_left, or_right}
 use Rattle.des_base.proofs.Elements.{all_append, all_from as all_of, cons_cases, map_from, map_has, none_in_nil}
-use Rattle.log_clauses.proofs.Lists.{all_at}
+use Rattle.question_clauses.proofs.Lists.{all_at, in_numbers, from_numbers}
 use Rattle.log_order.specs.Log.{Log, IsValidLog}
 use Rattle.prop_core.proofs.NameLemmas.{values_match, assignments_match}
 use Rattle.prop_core.specs.Clauses.{Clause, negation, literal_true, clause_true, AllClausesTrue, AllLiteralsTrue}
@@ -16,7 +16,6 @@ use Rattle.prop_core.specs.NamedClauses.{value_by, assignment_by}
 use Rattle.prop_core.specs.VariableNames.{Meaning, happens, meaning_of, HasEachOnce}
 use Rattle.prop_core.specs.declared.grid.Grid.{Grid}
 use Rattle.prop_core.specs.declared.lit.Lit.{Lit}
-use Rattle.run_clauses.proofs.Lists.{in_numbers, from_numbers}
 use Rattle.run_decode.proofs.Assumptions.{is_guard}
 use Rattle.run_decode.proofs.Tells.{ridden_tells, consistent_by, unnamed, guards_true}
 use Rattle.run_decode.specs.Faithful.{MakesTrue}

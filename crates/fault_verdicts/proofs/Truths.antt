@@ -6,14 +6,14 @@ use Rattle.des_net.specs.Width.{joined}
 use Rattle.des_base.proofs.Elements.{map_from, map_has, none_in_nil, any_has, has_any}
 use Rattle.des_base.proofs.BoolLemmas.{beq_true}
 use Rattle.std.proofs.lemmas.List.Elements.{Contains-append_cases as append_cases, Contains-append_left as append_left, Contains-append_right as append_right}
-use Rattle.log_clauses.proofs.Pieces.{AreFrom, pieces_are_steps}
+use Rattle.question_clauses.proofs.Pieces.{AreFrom, pieces_are_steps}
 use Rattle.prop_core.specs.Clauses.{literal_true}
 use Rattle.prop_core.specs.NamedClauses.{Match}
 use Rattle.prop_core.specs.VariableNames.{Meaning, happens}
 use Rattle.prop_core.specs.declared.grid.Grid.{Grid}
-use Rattle.run_clauses.specs.Steps.{AreSteps}
+use Rattle.question_clauses.specs.Steps.{AreSteps}
 use Rattle.step_encode.specs.FaultInputs.{event_literal, event_literals}
-use Rattle.run_clauses.proofs.Lists.{in_numbers, from_numbers}
+use Rattle.question_clauses.proofs.Lists.{in_numbers, from_numbers}
 use Rattle.des_base.specs.Lists.{numbers_below}
 use Rattle.fault_verdicts.specs.Telling.{IsEventGrid}
 

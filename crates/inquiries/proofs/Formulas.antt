@@ -18,7 +18,7 @@ use Rattle.least_faults.specs.Columns.{columns_for}
 use Rattle.least_faults.specs.Evidence.{IsPosed}
 use Rattle.least_faults.specs.Growing.{AddsAxioms, KeepsQuestion}
 use Rattle.least_faults.specs.Parts.{AreParts, AreReady, BelongTo, IsBuilt, built_of, meanings_of_parts}
-use Rattle.log_clauses.specs.LogClauses.{guard_literals}
+use Rattle.question_clauses.specs.LogClauses.{guard_literals}
 use Rattle.log_encode.specs.CodedLog.{CodedLog, without_names}
 use Rattle.log_order.specs.Log.{Log, IsValidLog}
 use Rattle.proof_ledger.specs.Book.{BookEntry, axiomatic, axioms_of, clauses_of}

@@ -19,8 +19,8 @@ use Rattle.least_faults.specs.Asking.{AreAssumed, assumed_by, bound_part}
 use Rattle.least_faults.specs.Columns.{built_within, columns_for}
 use Rattle.least_faults.specs.Evidence.{HasLastFinal, IsEvidence, IsPosed, is_final}
 use Rattle.least_faults.specs.Parts.{AreReady, BelongTo, IsBuilt, meanings_of_parts}
-use Rattle.log_clauses.proofs.Codes.{IsReadOf, named_entry, read_of}
-use Rattle.log_clauses.proofs.Guards.{literal_named}
+use Rattle.question_clauses.proofs.LogCodes.{IsReadOf, named_entry, read_of}
+use Rattle.question_clauses.proofs.Guards.{literal_named}
 use Rattle.log_encode.specs.CodedLog.{CodedLog, log_meanings, read_meanings, without_names}
 use Rattle.log_order.specs.Log.{Log, IsValidLog}
 use Rattle.proof_ledger.specs.Book.{BookEntry, axiomatic, final, mark, axiom_of, axioms_of, clause_of, clauses_of}
@@ -42,7 +42,7 @@ use Rattle.run_decode.proofs.WholeNames.{together_one_naming}
 use Rattle.run_decode.specs.Drawn.{assumption_literals, at_most, fault_inputs}
 use Rattle.run_decode.specs.QuestionAxioms.{BuiltQuestion, question_axioms, question_built}
 use Rattle.run_decode.specs.WholeNaming.{AreCodedTogether, whole_meanings}
-use Rattle.log_clauses.specs.LogClauses.{guard_literals}
+use Rattle.question_clauses.specs.LogClauses.{guard_literals}
 use Rattle.step_encode.specs.Coded.{CodedSteps, code_meanings}
 use Rattle.inquiries.specs.Formula.{bound_within, counted_bound, question_assumed, question_within}
 use Rattle.inquiries.specs.Refuted.{HasBoundColumn, HasEvidence, HasEvidenceFor, IsLastFinal, IsVerifiedRefutation}

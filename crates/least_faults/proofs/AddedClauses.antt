@@ -7,11 +7,11 @@ use Rattle.des_net.specs.Network.{Net}
 use Rattle.des_net.specs.QuestionSize.{component_sizes, counter_size, observable_count}
 use Rattle.least_faults.specs.Adding.{input_count, is_doubted}
 use Rattle.least_faults.specs.Bounds.{coded_clauses}
-use Rattle.log_clauses.proofs.Drafts.{added_few, doubtful_more, first_clauses_are_few, longer, same_count, sum_more}
-use Rattle.log_clauses.proofs.Stay.{with_alarm}
-use Rattle.log_clauses.specs.Additions.{Addition, alarm_added, pair_added, with_addition}
-use Rattle.log_clauses.specs.Drafts.{added_clauses, added_list, first_clauses, first_list}
-use Rattle.log_clauses.specs.LogClauses.{log_clause, before_if_asked}
+use Rattle.question_clauses.proofs.Drafts.{added_few, doubtful_more, first_clauses_are_few, longer, same_count, sum_more}
+use Rattle.question_clauses.proofs.Stay.{with_alarm}
+use Rattle.question_clauses.specs.Additions.{Addition, alarm_added, pair_added, with_addition}
+use Rattle.question_clauses.specs.Drafts.{added_clauses, added_list, first_clauses, first_list}
+use Rattle.question_clauses.specs.LogClauses.{log_clause, before_if_asked}
 use Rattle.log_encode.specs.BuiltLog.{BuiltLog, added_written, additions_of, built_empty, built_log, built_with}
 use Rattle.log_encode.specs.CodedLog.{CodedLog, code_after, empty_code, read_meanings}
 use Rattle.log_order.specs.Log.{Log, Alarm, no_log}

@@ -12,8 +12,8 @@ use Rattle.least_faults.specs.Growing.{KeepsColumns}
 use Rattle.least_faults.specs.Parts.{AreParts}
 use Rattle.least_faults.specs.declared.parts.Parts.{Parts}
 use Rattle.des_net.specs.Network.{Net}
-use Rattle.log_clauses.proofs.Lists.{all_at}
-use Rattle.log_clauses.specs.LogClauses.{guard_literals}
+use Rattle.question_clauses.proofs.Lists.{all_at}
+use Rattle.question_clauses.specs.LogClauses.{guard_literals}
 use Rattle.log_encode.proofs.CodeLemmas.{beside}
 use Rattle.log_encode.specs.CodedLog.{CodedLog, IsCodedLog, read_meanings}
 use Rattle.log_encode.specs.Drafted.{LogCodeState}

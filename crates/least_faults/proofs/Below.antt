@@ -7,8 +7,8 @@ use Rattle.card_counter.proofs.NameLemmas.{counter_meanings_stand}
 use Rattle.card_counter.specs.CounterState.{CounterState, counter_meanings, counter_clauses}
 use Rattle.des_base.proofs.Elements.{all_from as all_of}
 use Rattle.least_faults.specs.Parts.{AreParts, HaveRoom}
-use Rattle.log_clauses.proofs.Codes.{read_of, named_entry}
-use Rattle.log_clauses.proofs.Lists.{all_at}
+use Rattle.question_clauses.proofs.LogCodes.{read_of, named_entry}
+use Rattle.question_clauses.proofs.Lists.{all_at}
 use Rattle.log_encode.proofs.CodeLemmas.{asked_below}
 use Rattle.log_encode.specs.CodedLog.{CodedLog, log_meanings, read_meanings}
 use Rattle.prop_core.specs.Clauses.{Clause, HasValues}

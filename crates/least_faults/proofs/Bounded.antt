@@ -11,11 +11,11 @@ use Rattle.least_faults.proofs.Observed.{few_observable, sum_both}
 use Rattle.least_faults.specs.Adding.{is_doubted}
 use Rattle.least_faults.specs.Bounds.{AreBounded, coded_clauses, question_variables}
 use Rattle.least_faults.specs.LogVariables.{log_variables}
-use Rattle.log_clauses.proofs.Drafts.{doubtful_more}
-use Rattle.log_clauses.proofs.NewNames.{names_leave_room}
-use Rattle.log_clauses.specs.Additions.{Addition, alarm_added, pair_added, with_addition}
-use Rattle.log_clauses.specs.Drafts.{added_clauses}
-use Rattle.log_clauses.specs.LogNames.{added_meanings}
+use Rattle.question_clauses.proofs.Drafts.{doubtful_more}
+use Rattle.question_clauses.proofs.NewNames.{names_leave_room}
+use Rattle.question_clauses.specs.Additions.{Addition, alarm_added, pair_added, with_addition}
+use Rattle.question_clauses.specs.Drafts.{added_clauses}
+use Rattle.question_clauses.specs.LogNames.{added_meanings}
 use Rattle.log_encode.specs.AlarmVariables.{false_width}
 use Rattle.log_encode.specs.CodedLog.{CodedLog, addition_width, without_names}
 use Rattle.log_order.specs.Log.{Log, is_doubtful, no_log}

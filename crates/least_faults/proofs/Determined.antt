@@ -7,7 +7,7 @@ use Rattle.des_base.specs.declared.TheConstants.{VAR_LIMIT}
 use Rattle.des_net.specs.Network.{Net}
 use Rattle.least_faults.proofs.CodedAlarms.{nameless_at}
 use Rattle.least_faults.specs.LogCoding.{AreBuiltBy, alarms_added, pairs_added, written_of}
-use Rattle.log_clauses.specs.Additions.{Addition, alarm_added, pair_added}
+use Rattle.question_clauses.specs.Additions.{Addition, alarm_added, pair_added}
 use Rattle.log_encode.proofs.WrittenLemmas.{draft_is_built, first_is_built}
 use Rattle.log_encode.specs.BuiltLog.{added_written, built_empty, built_log, built_with, first_written}
 use Rattle.log_encode.specs.CodedLog.{CodedLog, IsCodedLog, code_after, empty_code, nameless, read_meanings, without_names}

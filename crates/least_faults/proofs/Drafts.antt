@@ -20,11 +20,10 @@ use Rattle.least_faults.proofs.FewClauses.{AreFew, few_at, few_flat}
 use Rattle.least_faults.specs.Adding.{input_count, is_doubted, last_literal, new_inputs}
 use Rattle.least_faults.specs.Bounds.{question_variables}
 use Rattle.least_faults.specs.Parts.{AreParts}
-use Rattle.log_clauses.specs.Additions.{Addition, alarm_added, pair_added, with_addition}
-use Rattle.log_clauses.specs.Drafts.{added_clauses, added_list}
-use Rattle.log_clauses.specs.LogClauses.{log_clause}
-use Rattle.log_clauses.specs.LogNames.{alarm_meanings, false_meanings, match_chains}
-use Rattle.log_clauses.specs.Drafts.{taken_events}
+use Rattle.question_clauses.specs.Additions.{Addition, alarm_added, pair_added, with_addition}
+use Rattle.question_clauses.specs.Drafts.{added_clauses, added_list, taken_events}
+use Rattle.question_clauses.specs.LogClauses.{log_clause}
+use Rattle.question_clauses.specs.LogNames.{alarm_meanings, false_meanings, match_chains}
 use Rattle.log_encode.proofs.CodeLemmas.{beside}
 use Rattle.log_encode.specs.CodedLog.{CodedLog, addition_width, code_after, read_meanings}
 use Rattle.log_encode.specs.Drafted.{DraftState, IsDraftOf}

@@ -9,7 +9,7 @@ use Rattle.des_base.specs.Lists.{numbers_below}
 use Rattle.des_net.specs.declared.parts.Part.{Part}
 use Rattle.des_net.specs.Network.{Net, IsNetwork, IsEvent, IsPart, parts_of, touches, event_at, no_event, label_of}
 use Rattle.des_net.specs.QuestionSize.{component_sizes, observable_count, component_state_count, touching_count}
-use Rattle.run_clauses.proofs.Lists.{in_numbers}
+use Rattle.question_clauses.proofs.Lists.{in_numbers}
 use Rattle.run_decode.proofs.SmallPieces.{first_of, first_there, first_known}
 
 -- ---- sums

@@ -6,7 +6,7 @@ use Rattle.least_faults.specs.Asking.{AreAssumptions, Pose, bound_part}
 use Rattle.least_faults.specs.Evidence.{IsPosed}
 use Rattle.least_faults.specs.Parts.{AreParts, AreReady, BelongTo, meanings_of_parts}
 use Rattle.des_net.specs.Network.{Net, IsNetwork}
-use Rattle.log_clauses.proofs.Lists.{all_at}
+use Rattle.question_clauses.proofs.Lists.{all_at}
 use Rattle.log_encode.specs.CodedLog.{CodedLog, read_meanings, without_names}
 use Rattle.log_order.specs.Log.{Log, IsValidLog}
 use Rattle.prop_core.specs.Clauses.{Clause}
@@ -22,7 +22,7 @@ use Rattle.run_decode.specs.Question.{Asks, IsNamedQuestion}
 use Rattle.run_decode.specs.WholeNaming.{AreClausesOf, AreCodedTogether, whole_meanings, AskTogether}
 use Rattle.step_encode.specs.Coded.{CodedSteps}
 use Rattle.least_faults.specs.declared.parts.Parts.{Parts}
-use Rattle.log_clauses.specs.LogClauses.{guard_literals}
+use Rattle.question_clauses.specs.LogClauses.{guard_literals}
 use Rattle.proof_ledger.specs.Book.{BookEntry, axioms_of}
 
 -- what asks a question poses it by the same names

@@ -8,7 +8,7 @@ use Rattle.least_faults.specs.Adding.{HasRoomForDraft, IsReserved, KeepsAllButRo
 use Rattle.least_faults.specs.Bounds.{question_variables}
 use Rattle.least_faults.specs.Parts.{AreParts, AreReady}
 use Rattle.least_faults.specs.declared.parts.Parts.{Parts}
-use Rattle.log_clauses.specs.Additions.{with_addition}
+use Rattle.question_clauses.specs.Additions.{with_addition}
 use Rattle.log_encode.specs.CodedLog.{CodedLog}
 use Rattle.log_encode.specs.Drafted.{DraftState, IsDraftOf, LogCodeState}
 use Rattle.sat_solve.specs.Searching.{HasAxiomVars}

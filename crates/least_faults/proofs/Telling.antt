@@ -7,9 +7,9 @@ use Rattle.des_net.specs.Network.{Net, IsNetwork, observable_events}
 use Rattle.least_faults.proofs.Posing.{poses}
 use Rattle.least_faults.specs.Asking.{AreAssumptions}
 use Rattle.least_faults.specs.Parts.{AreParts}
-use Rattle.log_clauses.proofs.Codes.{IsReadOf, read_of}
-use Rattle.log_clauses.proofs.Lists.{all_at}
-use Rattle.log_clauses.specs.LogClauses.{guard_literals, chain}
+use Rattle.question_clauses.proofs.LogCodes.{IsReadOf, read_of}
+use Rattle.question_clauses.proofs.Lists.{all_at}
+use Rattle.question_clauses.specs.LogClauses.{guard_literals, chain}
 use Rattle.log_encode.specs.CodedLog.{CodedLog, without_names}
 use Rattle.log_order.specs.Log.{Log, IsValidLog}
 use Rattle.prop_core.specs.Clauses.{Clause, negation, NegatesOnly}

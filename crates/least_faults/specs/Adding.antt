@@ -8,7 +8,7 @@ use Rattle.least_faults.specs.Bounds.{question_variables}
 use Rattle.least_faults.specs.Parts.{built_of}
 use Rattle.least_faults.specs.declared.adding.Reserved.{Reserved}
 use Rattle.least_faults.specs.declared.parts.Parts.{Parts}
-use Rattle.log_clauses.specs.Additions.{Addition, alarm_added, pair_added, with_addition}
+use Rattle.question_clauses.specs.Additions.{Addition, alarm_added, pair_added, with_addition}
 use Rattle.log_encode.specs.Drafted.{DraftState, IsDraftOf, HasRoomFor}
 use Rattle.log_order.specs.Log.{Log}
 use Rattle.proof_ledger.specs.Book.{BookEntry, axiomatic}

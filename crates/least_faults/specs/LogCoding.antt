@@ -1,7 +1,7 @@
 -- The code of a log as it grows, alarm by alarm and then pair by pair.
 use Rattle.std.specs.Prelude.{◌≡◌, ℕ, List, [], fold, map}
 use Rattle.des_net.specs.Network.{Net}
-use Rattle.log_clauses.specs.Additions.{Addition, alarm_added, pair_added}
+use Rattle.question_clauses.specs.Additions.{Addition, alarm_added, pair_added}
 use Rattle.log_encode.specs.BuiltLog.{BuiltLog, built_with}
 use Rattle.log_encode.specs.CodedLog.{CodedLog, without_names}
 use Rattle.log_encode.specs.WrittenLog.{IsWritten}

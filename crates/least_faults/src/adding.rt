@@ -6,7 +6,7 @@ ghost use Rattle.card_counter.specs.Growing.{AddsInputs, HasRoom, MayCount};
 ghost use Rattle.least_faults.specs.Adding.{AddsFew, HasAddition, HasRoomForDraft, IsReserved, KeepsAllButRoom, input_count, is_doubted, new_inputs};
 ghost use Rattle.least_faults.specs.Bounds.{question_variables};
 ghost use Rattle.least_faults.specs.Parts.{AreReady};
-ghost use Rattle.log_clauses.specs.Additions.{with_addition};
+ghost use Rattle.question_clauses.specs.Additions.{with_addition};
 ghost use Rattle.log_encode.specs.Drafted.{IsDraftOf};
 
 use crate::parts::Parts;

@@ -1,6 +1,6 @@
 // What is asked about: which runs of a network explain a log.
 ghost use Rattle.std.specs.Prelude.{◌≤◌, List, length};
-ghost use Rattle.log_clauses.specs.LogClauses.{guard_literals};
+ghost use Rattle.question_clauses.specs.LogClauses.{guard_literals};
 ghost use Rattle.log_encode.specs.CodedLog.{read_meanings};
 ghost use Rattle.prop_core.specs.VariableNames.{ReadsAs};
 ghost use Rattle.prop_core.specs.declared.lit.Lit.{Lit};

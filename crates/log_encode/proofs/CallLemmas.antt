@@ -8,13 +8,13 @@ use Rattle.des_base.specs.Lists.{numbers_below}
 use Rattle.des_base.specs.declared.TheConstants.{VAR_LIMIT}
 use Rattle.des_net.specs.Network.{Net, observable_events}
 use Rattle.log_order.specs.Log.{Log, is_doubtful}
-use Rattle.log_clauses.specs.Additions.{alarm_added, with_addition}
-use Rattle.log_clauses.specs.LogClauses.{chain, guard_literals, matching_events}
-use Rattle.log_clauses.specs.Decoded.{alarm_at, is_false_alarm}
-use Rattle.log_clauses.specs.LogNames.{first_meanings, ReadsInOrder}
+use Rattle.question_clauses.specs.Additions.{alarm_added, with_addition}
+use Rattle.question_clauses.specs.LogClauses.{chain, guard_literals, matching_events}
+use Rattle.question_clauses.specs.Decoded.{alarm_at, is_false_alarm}
+use Rattle.question_clauses.specs.LogNames.{first_meanings, ReadsInOrder}
 use Rattle.replay.specs.Explanation.{is_matching, has_any_label}
-use Rattle.run_clauses.proofs.Lists.{from_numbers, in_numbers}
-use Rattle.log_clauses.proofs.Numbered.{ordered_literal, ordered_names}
+use Rattle.question_clauses.proofs.Lists.{from_numbers, in_numbers}
+use Rattle.question_clauses.proofs.Numbered.{ordered_literal, ordered_names}
 use Rattle.card_counter.specs.CounterState.{positive}
 use Rattle.log_encode.proofs.CodeLemmas.{empty_is_coded, grown_is_coded}
 use Rattle.log_encode.proofs.DraftLemmas.{lifted, asked_named, first_written, alarm_brings}
@@ -42,7 +42,7 @@ use Rattle.std.proofs.lemmas.Bool.{eqb-true, eq-eqb}
 use Rattle.log_encode.specs.declared.alarm_vars.AlarmVars.{AlarmVars}
 use Rattle.prop_core.specs.VariableNames.{Meaning, NamedLiteral, meaning_of, named_clause, yes, closed, matches, done, dropped}
 use Rattle.prop_core.specs.Listings.{IsListed}
-use Rattle.log_clauses.specs.Drafts.{added_list}
+use Rattle.question_clauses.specs.Drafts.{added_list}
 use Rattle.log_encode.specs.WrittenLog.{AppendsFirst}
 
 -- ---- the empty log

@@ -6,21 +6,21 @@ use Rattle.des_base.specs.Lists.{numbers_below}
 use Rattle.des_base.specs.declared.TheConstants.{VAR_LIMIT}
 use Rattle.des_net.specs.Network.{Net}
 use Rattle.log_order.specs.Log.{Log, Alarm, no_log, is_doubtful, a_log}
-use Rattle.log_clauses.specs.Additions.{Addition, alarm_added, pair_added, with_addition}
-use Rattle.log_clauses.specs.LogNames.{added_meanings, first_meanings, link_meanings, alarm_meanings, match_chains, false_meanings, AreLogMeanings}
-use Rattle.log_clauses.specs.Drafts.{taken_events}
-use Rattle.log_clauses.specs.LogClauses.{chain, doubtful_alarms}
-use Rattle.log_clauses.proofs.Stay.{doubtful_new, doubtful_is}
+use Rattle.question_clauses.specs.Additions.{Addition, alarm_added, pair_added, with_addition}
+use Rattle.question_clauses.specs.LogNames.{added_meanings, first_meanings, link_meanings, alarm_meanings, match_chains, false_meanings, AreLogMeanings}
+use Rattle.question_clauses.specs.Drafts.{taken_events}
+use Rattle.question_clauses.specs.LogClauses.{chain, doubtful_alarms}
+use Rattle.question_clauses.proofs.Stay.{doubtful_new, doubtful_is}
 use Rattle.std.proofs.lemmas.List.{map-append}
-use Rattle.log_clauses.specs.BesideEvents.{AreBesideEvents, IsAfterEvents}
-use Rattle.log_clauses.proofs.BesideEvents.{meanings_join_events}
-use Rattle.log_clauses.proofs.Numbered.{meanings_begin, log_meanings_grow}
+use Rattle.question_clauses.specs.BesideEvents.{AreBesideEvents, IsAfterEvents}
+use Rattle.question_clauses.proofs.BesideEvents.{meanings_join_events}
+use Rattle.question_clauses.proofs.Numbered.{meanings_begin, log_meanings_grow}
 use Rattle.log_encode.proofs.Naming.{row_above}
 use Rattle.log_encode.specs.CodedLog.{CodedLog, meanings_from, log_meanings, empty_code, code_after, addition_width, false_literals, IsCodedLog}
 use Rattle.prop_core.specs.declared.grid.Grid.{Grid}
 use Rattle.prop_core.specs.VariableNames.{Meaning, done, dropped, yes}
 use Rattle.std.specs.Prelude.{flat_map}
-use Rattle.run_clauses.specs.LaidOut.{laid_out}
+use Rattle.question_clauses.specs.LaidOut.{laid_out}
 
 abbrev of_alarms : List Alarm → Log
 of_alarms alarms = a_log alarms []

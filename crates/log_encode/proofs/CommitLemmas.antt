@@ -2,7 +2,7 @@
 use Rattle.std.proofs.Common.{◌≡◌, ℕ, ◌+◌, ◌≤◌, ◌∙◌, List, [], ◌∷◌, ◌++◌, length, refl, sym, ap, subst, arith}
 use Rattle.des_base.specs.declared.TheConstants.{VAR_LIMIT}
 use Rattle.des_net.specs.Network.{Net}
-use Rattle.log_clauses.specs.Additions.{Addition, alarm_added, pair_added}
+use Rattle.question_clauses.specs.Additions.{Addition, alarm_added, pair_added}
 use Rattle.log_encode.proofs.CodeLemmas.{grown_is_coded}
 use Rattle.log_encode.proofs.StayLemmas.{kept_by_pair, kept_with_alarm, coded_with_alarm}
 use Rattle.log_encode.proofs.TakenLemmas.{map_count}

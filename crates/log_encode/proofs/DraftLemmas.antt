@@ -6,13 +6,13 @@ use Rattle.des_base.specs.ChainCount.{chain_count}
 use Rattle.des_base.specs.Lists.{numbers_below}
 use Rattle.des_net.specs.Network.{Net, observable_events}
 use Rattle.log_order.specs.Log.{Log, Alarm, no_log}
-use Rattle.log_clauses.specs.Additions.{alarm_added, pair_added, with_addition}
-use Rattle.log_clauses.specs.Drafts.{alarm_link_clauses, alarm_clauses, real_clauses, added_clauses, taken_events, first_clauses, added_list}
-use Rattle.log_clauses.specs.LogClauses.{chain, chain_closed, before_if_asked, log_clause}
-use Rattle.log_clauses.specs.LogNames.{first_meanings}
-use Rattle.log_clauses.proofs.Drafts.{drafts_are_code, drafts_are_small, first_clauses_are_few}
-use Rattle.log_clauses.proofs.Codes.{code_begins}
-use Rattle.log_clauses.proofs.Stay.{doubtful_new}
+use Rattle.question_clauses.specs.Additions.{alarm_added, pair_added, with_addition}
+use Rattle.question_clauses.specs.Drafts.{alarm_link_clauses, alarm_clauses, real_clauses, added_clauses, taken_events, first_clauses, added_list}
+use Rattle.question_clauses.specs.LogClauses.{chain, chain_closed, before_if_asked, log_clause}
+use Rattle.question_clauses.specs.LogNames.{first_meanings}
+use Rattle.question_clauses.proofs.Drafts.{drafts_are_code, drafts_are_small, first_clauses_are_few}
+use Rattle.question_clauses.proofs.LogCodes.{code_begins}
+use Rattle.question_clauses.proofs.Stay.{doubtful_new}
 use Rattle.card_counter.specs.CounterState.{positive, negative}
 use Rattle.log_encode.proofs.GrowLemmas.{places, taken_count, get_at, new_vars}
 use Rattle.log_encode.proofs.CodeLemmas.{beside}
@@ -30,8 +30,8 @@ use Rattle.prop_core.specs.declared.grid.Grid.{Grid}
 use Rattle.prop_core.specs.Grids.{grid_variable}
 use Rattle.prop_core.specs.VariableNames.{Meaning, meaning_of, asked, happens, done, dropped, closed, remaining, some_of_first, of_matches}
 use Rattle.replay.specs.QuestionSize.{question_size}
-use Rattle.run_clauses.proofs.LaidOut.{named_at}
-use Rattle.run_clauses.specs.LaidOut.{laid_out}
+use Rattle.question_clauses.proofs.LaidOut.{named_at}
+use Rattle.question_clauses.specs.LaidOut.{laid_out}
 use Rattle.prop_core.proofs.Listed.{listed_from}
 use Rattle.prop_core.specs.Listings.{IsListed}
 use Rattle.log_encode.specs.WrittenLog.{AppendsFirst}

@@ -8,18 +8,18 @@ use Rattle.des_base.proofs.Elements.{filter_from}
 use Rattle.des_base.specs.Lists.{numbers_below}
 use Rattle.des_base.specs.declared.TheConstants.{VAR_LIMIT}
 use Rattle.des_net.specs.Network.{Net, label_of, observable_events}
-use Rattle.log_clauses.specs.LogNames.{first_meanings}
+use Rattle.question_clauses.specs.LogNames.{first_meanings}
 use Rattle.log_encode.proofs.TakenLemmas.{map_count}
 use Rattle.prop_core.proofs.NameLemmas.{found_more}
-use Rattle.run_clauses.proofs.LaidOut.{named_at}
-use Rattle.run_clauses.proofs.Lists.{from_numbers}
+use Rattle.question_clauses.proofs.LaidOut.{named_at}
+use Rattle.question_clauses.proofs.Lists.{from_numbers}
 use Rattle.log_encode.specs.CodedLog.{empty_code}
 use Rattle.log_encode.specs.declared.taken.ChainEnd.{ChainEnd}
 use Rattle.log_encode.specs.View.{IsChainEnd, AreEnds}
 use Rattle.log_encode.specs.Written.{first_ends, guards_of}
 use Rattle.prop_core.specs.declared.grid.Grid.{Grid}
 use Rattle.prop_core.specs.VariableNames.{closed, meaning_of}
-use Rattle.run_clauses.specs.LaidOut.{laid_out}
+use Rattle.question_clauses.specs.LaidOut.{laid_out}
 
 pub filter_more : (p : ℕ → Bool) (k : ℕ) → filter p (numbers_below (k + 1)) ≡ filter p (numbers_below k) ++ filter p (k ∷ [])
 filter_more p k = ap (filter p) (numbers_more k) ∙ filter-append p (numbers_below k) (k ∷ [])

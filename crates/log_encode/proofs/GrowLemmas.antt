@@ -8,12 +8,12 @@ use Rattle.des_base.specs.ChainCount.{chain_count}
 use Rattle.des_base.specs.Lists.{EachPair, numbers_below}
 use Rattle.des_net.specs.Network.{Net, label_of, observable_events}
 use Rattle.log_order.specs.Log.{Log, Alarm}
-use Rattle.log_clauses.specs.Additions.{alarm_added, with_addition}
-use Rattle.log_clauses.specs.Drafts.{taken_events}
-use Rattle.log_clauses.specs.LogClauses.{chain}
-use Rattle.log_clauses.specs.LogNames.{HasAlarmPlaces, ReadsInOrder}
-use Rattle.log_clauses.proofs.Numbered.{places_of_meanings}
-use Rattle.log_clauses.proofs.Stay.{doubtful_new}
+use Rattle.question_clauses.specs.Additions.{alarm_added, with_addition}
+use Rattle.question_clauses.specs.Drafts.{taken_events}
+use Rattle.question_clauses.specs.LogClauses.{chain}
+use Rattle.question_clauses.specs.LogNames.{HasAlarmPlaces, ReadsInOrder}
+use Rattle.question_clauses.proofs.Numbered.{places_of_meanings}
+use Rattle.question_clauses.proofs.Stay.{doubtful_new}
 use Rattle.log_encode.proofs.CodeLemmas.{names_with_alarm, raised, false_more}
 use Rattle.log_encode.proofs.StayLemmas.{end_stays, chain_joined, named_still}
 use Rattle.log_encode.proofs.TakenLemmas.{taken_are_events, taken_is_filter, width_is, map_count}

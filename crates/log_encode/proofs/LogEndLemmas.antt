@@ -2,8 +2,8 @@
 use Rattle.std.proofs.Common.{◌≡◌, ◌∙◌, ℕ, ◌+◌, ◌*◌, ◌<◌, ◌≤◌, Bool, List, [], ◌++◌, length, refl, sym, ap, subst, arith, All}
 use Rattle.des_base.specs.declared.TheConstants.{VAR_LIMIT}
 use Rattle.des_net.specs.Network.{Net}
-use Rattle.log_clauses.specs.Additions.{alarm_added, with_addition}
-use Rattle.log_clauses.specs.Drafts.{added_list}
+use Rattle.question_clauses.specs.Additions.{alarm_added, with_addition}
+use Rattle.question_clauses.specs.Drafts.{added_list}
 use Rattle.log_encode.proofs.CallLemmas.{IsDrafting, draft_known_events, draft_rests, draft_width, draft_brings, ready_alarm}
 use Rattle.log_encode.proofs.GrowLemmas.{new_vars}
 use Rattle.log_encode.specs.AlarmState.{AlarmState}

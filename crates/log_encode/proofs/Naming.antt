@@ -2,7 +2,7 @@
 use Rattle.std.proofs.Common.{ℕ, ◌+◌, ◌≤◌, List, [], ◌∷◌, arith}
 use Rattle.std.specs.List.{AllByRecursion}
 use Rattle.prop_core.specs.VariableNames.{Meaning}
-use Rattle.run_clauses.specs.LaidOut.{laid_out}
+use Rattle.question_clauses.specs.LaidOut.{laid_out}
 
 -- the variables of a row aren't less than its first
 pub row_above : (first least : ℕ) (names : List Meaning) → least ≤ first → AllByRecursion (λ entry. least ≤ entry.0) (laid_out first names)

@@ -11,9 +11,9 @@ use Rattle.des_base.specs.ChainCount.{chain_count}
 use Rattle.des_base.specs.Lists.{numbers_below}
 use Rattle.des_net.specs.Network.{Net}
 use Rattle.log_order.specs.Log.{Log, is_doubtful}
-use Rattle.log_clauses.specs.Drafts.{alarm_link_clauses, match_clauses, done_clauses, real_clauses}
-use Rattle.log_clauses.specs.LogClauses.{LogClause, log_clause, matching_events, one_match, match_is_real, not_done_first, done_if_asked, or_false}
-use Rattle.log_clauses.proofs.Numbered.{ordered_names}
+use Rattle.question_clauses.specs.Drafts.{alarm_link_clauses, match_clauses, done_clauses, real_clauses}
+use Rattle.question_clauses.specs.LogClauses.{LogClause, log_clause, matching_events, one_match, match_is_real, not_done_first, done_if_asked, or_false}
+use Rattle.question_clauses.proofs.Numbered.{ordered_names}
 use Rattle.card_counter.specs.CounterState.{positive, negative}
 use Rattle.log_encode.specs.AlarmVariables.{match_variable, done_variable, chain_variable, dropped_variable}
 use Rattle.log_encode.specs.declared.alarm_vars.AlarmVars.{AlarmVars}

@@ -5,10 +5,10 @@ use Rattle.des_base.proofs.Elements.{filter_alike}
 use Rattle.des_base.specs.Lists.{numbers_below}
 use Rattle.des_net.specs.Network.{Net}
 use Rattle.log_order.specs.Log.{Log, Alarm, a_log}
-use Rattle.log_clauses.specs.Additions.{alarm_added, pair_added, with_addition}
-use Rattle.log_clauses.specs.LogClauses.{chain, matching_events}
-use Rattle.log_clauses.specs.LogNames.{added_meanings}
-use Rattle.log_clauses.proofs.Stay.{matching_same, chain_is, doubtful_same}
+use Rattle.question_clauses.specs.Additions.{alarm_added, pair_added, with_addition}
+use Rattle.question_clauses.specs.LogClauses.{chain, matching_events}
+use Rattle.question_clauses.specs.LogNames.{added_meanings}
+use Rattle.question_clauses.proofs.Stay.{matching_same, chain_is, doubtful_same}
 use Rattle.log_encode.proofs.CodeLemmas.{names_with_alarm}
 use Rattle.log_encode.proofs.TakenLemmas.{suits_new}
 use Rattle.log_encode.specs.AlarmState.{AlarmState}
@@ -20,7 +20,7 @@ use Rattle.prop_core.specs.declared.grid.Grid.{Grid}
 use Rattle.prop_core.specs.declared.lit.Lit.{Lit}
 use Rattle.prop_core.specs.VariableNames.{Meaning, meaning_of, closed, remaining}
 use Rattle.replay.specs.Explanation.{is_matching, has_any_label}
-use Rattle.run_clauses.specs.LaidOut.{laid_out}
+use Rattle.question_clauses.specs.LaidOut.{laid_out}
 
 -- what has a name keeps it
 pub named_still : (code : CodedLog) (new : Alarm) (first var : ℕ) (meaning : Meaning) → length code.starts ≡ length code.log.alarms → meaning_of (log_meanings code) var ≡ Some meaning →

@@ -7,20 +7,20 @@ use Rattle.des_base.proofs.Elements.{filter_alike}
 use Rattle.des_base.specs.ChainCount.{chain_count}
 use Rattle.des_base.specs.Lists.{numbers_below}
 use Rattle.des_net.specs.Network.{Net, label_of, observable_events}
-use Rattle.log_clauses.proofs.Numbered.{link_size}
+use Rattle.question_clauses.proofs.Numbered.{link_size}
 use Rattle.log_order.specs.Log.{Log, Alarm}
-use Rattle.log_clauses.specs.Additions.{alarm_added, with_addition}
-use Rattle.log_clauses.specs.Drafts.{taken_events}
-use Rattle.log_clauses.specs.LogClauses.{chain}
-use Rattle.log_clauses.specs.LogNames.{added_meanings, alarm_meanings, match_chains, false_meanings, link_meanings}
-use Rattle.log_clauses.proofs.Drafts.{flat_length}
+use Rattle.question_clauses.specs.Additions.{alarm_added, with_addition}
+use Rattle.question_clauses.specs.Drafts.{taken_events}
+use Rattle.question_clauses.specs.LogClauses.{chain}
+use Rattle.question_clauses.specs.LogNames.{added_meanings, alarm_meanings, match_chains, false_meanings, link_meanings}
+use Rattle.question_clauses.proofs.Drafts.{flat_length}
 use Rattle.log_encode.specs.AlarmVariables.{alarm_variable_count, false_width}
 use Rattle.log_encode.specs.CodedLog.{nameless}
 use Rattle.log_encode.specs.declared.taken.ChainEnd.{ChainEnd}
 use Rattle.log_encode.specs.declared.taken.Taken.{Taken}
 use Rattle.log_encode.specs.Written.{taken_from}
 use Rattle.replay.specs.Explanation.{is_matching, has_any_label}
-use Rattle.run_clauses.specs.LaidOut.{chain_meanings}
+use Rattle.question_clauses.specs.LaidOut.{chain_meanings}
 use Rattle.std.specs.Prelude.{flat_map}
 use Rattle.std.proofs.lemmas.List.FromFn.{length-range_with_len}
 use Rattle.prop_core.specs.VariableNames.{done, some_of_first, of_matches}

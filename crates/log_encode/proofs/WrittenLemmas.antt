@@ -4,13 +4,13 @@ use Rattle.std.specs.List.{AllZip, AllByRecursion}
 use Rattle.std.specs.Prelude.{IsSomeAnd, IsTrue}
 use Rattle.des_net.specs.Network.{Net, label_of}
 use Rattle.log_order.specs.Log.{Log, Alarm, ListsOnce, labels_of, is_doubtful}
-use Rattle.log_clauses.specs.Additions.{Addition, alarm_added, pair_added}
-use Rattle.log_clauses.specs.LogCodes.{AreAmong}
-use Rattle.log_clauses.specs.LogNames.{added_meanings}
-use Rattle.log_clauses.proofs.Codes.{code_grows}
-use Rattle.log_clauses.proofs.Drafts.{drafts_are_code}
-use Rattle.log_clauses.specs.Drafts.{added_list, first_list}
-use Rattle.log_clauses.proofs.Explained.{log_code_is_exact}
+use Rattle.question_clauses.specs.Additions.{Addition, alarm_added, pair_added}
+use Rattle.question_clauses.specs.LogCodes.{AreAmong}
+use Rattle.question_clauses.specs.LogNames.{added_meanings}
+use Rattle.question_clauses.proofs.LogCodes.{code_grows}
+use Rattle.question_clauses.proofs.Drafts.{drafts_are_code}
+use Rattle.question_clauses.specs.Drafts.{added_list, first_list}
+use Rattle.question_clauses.proofs.Explained.{log_code_is_exact}
 use Rattle.log_encode.proofs.CodeLemmas.{beside, grown_is_coded, names_with_alarm}
 use Rattle.log_encode.proofs.TakenLemmas.{map_count}
 use Rattle.log_encode.specs.CodedLog.{CodedLog, log_meanings, read_meanings, code_after, without_names, nameless, IsCodedLog}
@@ -20,7 +20,7 @@ use Rattle.log_encode.specs.WrittenLog.{WrittenGrows, WrittenIsExact, NamesDontM
 use Rattle.prop_core.proofs.Listed.{listed_are_written}
 use Rattle.prop_core.specs.VariableNames.{Meaning}
 use Rattle.replay.specs.Explanation.{Entry, alarms_of, real_alarms, Shows, Linearises, observables}
-use Rattle.run_clauses.specs.LaidOut.{laid_out, event_block}
+use Rattle.question_clauses.specs.LaidOut.{laid_out, event_block}
 use Rattle.std.proofs.lemmas.List.Elements.{Contains-append_cases, Contains-append_left, Contains-append_right}
 
 -- the names of a code are among those of a longer one

@@ -2,8 +2,8 @@
 use Rattle.std.specs.Prelude.{◌≡◌, ◌+◌, ◌≤◌, ℕ, List, ◌++◌, map, fold}
 use Rattle.des_base.specs.declared.TheConstants.{VAR_LIMIT}
 use Rattle.des_net.specs.Network.{Net}
-use Rattle.log_clauses.specs.Additions.{Addition, alarm_added, pair_added}
-use Rattle.log_clauses.specs.Drafts.{added_list, first_list}
+use Rattle.question_clauses.specs.Additions.{Addition, alarm_added, pair_added}
+use Rattle.question_clauses.specs.Drafts.{added_list, first_list}
 use Rattle.log_encode.specs.CodedLog.{CodedLog, empty_code, code_after, read_meanings, IsCodedLog}
 use Rattle.log_encode.specs.Drafted.{DraftState, IsDraftOf}
 use Rattle.log_encode.specs.WrittenLog.{AppendsFirst}

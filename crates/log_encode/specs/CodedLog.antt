@@ -4,13 +4,13 @@ use Rattle.std.specs.List.{AllByRecursion}
 use Rattle.des_base.specs.declared.TheConstants.{VAR_LIMIT}
 use Rattle.des_net.specs.Network.{Net}
 use Rattle.log_order.specs.Log.{Log, Alarm, no_log, a_log, an_alarm}
-use Rattle.log_clauses.specs.Additions.{Addition, alarm_added, pair_added, with_addition}
-use Rattle.log_clauses.specs.BesideEvents.{with_events}
-use Rattle.log_clauses.specs.LogClauses.{doubtful_alarms}
-use Rattle.log_clauses.specs.LogNames.{added_meanings, first_meanings, AreLogMeanings}
+use Rattle.question_clauses.specs.Additions.{Addition, alarm_added, pair_added, with_addition}
+use Rattle.question_clauses.specs.BesideEvents.{with_events}
+use Rattle.question_clauses.specs.LogClauses.{doubtful_alarms}
+use Rattle.question_clauses.specs.LogNames.{added_meanings, first_meanings, AreLogMeanings}
 use Rattle.prop_core.specs.declared.grid.Grid.{Grid}
 use Rattle.prop_core.specs.VariableNames.{Meaning, NamedLiteral, yes, dropped}
-use Rattle.run_clauses.specs.LaidOut.{laid_out}
+use Rattle.question_clauses.specs.LaidOut.{laid_out}
 
 -- The network, the variables of its events, and the log, whose alarms have no names here; the variable that asks for the log, which is its first, the first variable of each alarm, and a number above all its variables.
 pub record CodedLog : Type 0 where

@@ -1,7 +1,7 @@
 -- A draft of an addition to the log, and what stands ready for it.
 use Rattle.std.specs.Prelude.{◌≡◌, ℕ, Bool, true, false, ◌+◌, ◌*◌, ◌<◌, ◌≤◌, List, length}
-use Rattle.log_clauses.specs.Additions.{Addition, alarm_added, pair_added, with_addition}
-use Rattle.log_clauses.specs.Drafts.{added_list}
+use Rattle.question_clauses.specs.Additions.{Addition, alarm_added, pair_added, with_addition}
+use Rattle.question_clauses.specs.Drafts.{added_list}
 use Rattle.log_encode.specs.CodedLog.{CodedLog, code_after, addition_width, read_meanings}
 use Rattle.prop_core.specs.Clauses.{Clause}
 use Rattle.prop_core.specs.Listings.{IsListed}

@@ -1,7 +1,7 @@
 -- The end of a coded log, and what an alarm brings that is added there.
 use Rattle.std.specs.Prelude.{◌≡◌, ℕ, ◌+◌, ◌≤◌, Bool, List, ◌++◌}
 use Rattle.des_base.specs.declared.TheConstants.{VAR_LIMIT}
-use Rattle.log_clauses.specs.Additions.{alarm_added}
+use Rattle.question_clauses.specs.Additions.{alarm_added}
 use Rattle.log_encode.specs.CodedLog.{CodedLog, IsCodedLog, addition_width, nameless}
 use Rattle.log_encode.specs.declared.alarm_vars.AlarmVars.{AlarmVars}
 use Rattle.log_encode.specs.declared.draft.Change.{Change}

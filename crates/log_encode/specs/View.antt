@@ -3,8 +3,8 @@ use Rattle.std.specs.Prelude.{◌≡◌, ℕ, suc, ◌+◌, ◌*◌, ◌<◌, �
 use Rattle.std.specs.List.{AllByRecursion}
 use Rattle.des_base.specs.declared.TheConstants.{VAR_LIMIT}
 use Rattle.des_net.specs.Network.{Net, observable_events}
-use Rattle.log_clauses.specs.Additions.{Addition, alarm_added, pair_added}
-use Rattle.log_clauses.specs.LogClauses.{chain, matching_events}
+use Rattle.question_clauses.specs.Additions.{Addition, alarm_added, pair_added}
+use Rattle.question_clauses.specs.LogClauses.{chain, matching_events}
 use Rattle.log_encode.specs.declared.draft.Change.{Change}
 use Rattle.log_encode.specs.declared.draft.Change.TheVariants.{Alarm, Pair}
 use Rattle.log_encode.specs.declared.draft.Draft.TheInside.{Inside as DraftInside}
@@ -16,7 +16,7 @@ use Rattle.log_encode.specs.AlarmVariables.{match_variable, done_variable, dropp
 use Rattle.log_encode.specs.CodedLog.{CodedLog, nameless, log_meanings, false_literals, IsCodedLog, code_after, addition_width}
 use Rattle.log_encode.specs.Drafted.{LogCodeState, DraftState}
 use Rattle.log_encode.specs.Written.{guards_of}
-use Rattle.log_clauses.specs.LogNames.{ReadsInOrder}
+use Rattle.question_clauses.specs.LogNames.{ReadsInOrder}
 use Rattle.log_order.specs.Log.{is_doubtful}
 use Rattle.prop_core.specs.declared.grid.Grid.{Grid}
 use Rattle.prop_core.specs.declared.lit.Lit.{Lit}

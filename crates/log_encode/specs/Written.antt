@@ -1,4 +1,4 @@
--- The clauses that are written for a log, as lists over variables. What they say by name stands in `log_clauses`.
+-- The clauses that are written for a log, as lists over variables. What they say by name stands in `question_clauses`.
 use Rattle.std.specs.Prelude.{ℕ, suc, ◌+◌, ◌*◌, List, [], ◌∷◌, ◌++◌, map, flat_map, Option, Some, None, if◌then◌else◌, ◌==◌, ◌<◌, ◌≤◌, IfSome}
 use Rattle.des_base.specs.Lists.{numbers_below}
 use Rattle.des_base.specs.declared.TheConstants.{VAR_LIMIT}

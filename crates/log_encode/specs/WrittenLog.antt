@@ -4,11 +4,11 @@ use Rattle.des_base.specs.declared.TheConstants.{VAR_LIMIT}
 use Rattle.des_net.specs.Network.{Net}
 use Rattle.des_net.specs.QuestionSize.{observable_count}
 use Rattle.log_order.specs.Log.{Log, no_log}
-use Rattle.log_clauses.specs.Additions.{Addition}
-use Rattle.log_clauses.specs.Drafts.{first_list}
-use Rattle.log_clauses.specs.LogClauses.{guard_literals}
-use Rattle.log_clauses.specs.LogCodeLaws.{IsExactLogCode}
-use Rattle.log_clauses.specs.LogCodes.{IsNamedLog}
+use Rattle.question_clauses.specs.Additions.{Addition}
+use Rattle.question_clauses.specs.Drafts.{first_list}
+use Rattle.question_clauses.specs.LogClauses.{guard_literals}
+use Rattle.question_clauses.specs.LogCodeLaws.{IsExactLogCode}
+use Rattle.question_clauses.specs.LogCodes.{IsNamedLog}
 use Rattle.log_encode.specs.CodedLog.{CodedLog, read_meanings, code_after, without_names, IsCodedLog}
 use Rattle.log_encode.specs.Drafted.{DraftState, IsDraftOf}
 use Rattle.prop_core.specs.declared.lit.Lit.{Lit}

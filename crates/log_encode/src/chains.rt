@@ -1,7 +1,7 @@
 // The ends of the chains of the events that can be seen, and the guards.
 ghost use Rattle.std.specs.Prelude.{◌≡◌, ◌≤◌, ◌+◌, ◌<◌, suc, length, is_some, IfOk};
 ghost use Rattle.des_net.specs.Network.{label_of, observable_events};
-ghost use Rattle.log_clauses.specs.LogNames.{first_meanings};
+ghost use Rattle.question_clauses.specs.LogNames.{first_meanings};
 ghost use Rattle.log_encode.specs.Written.{first_ends, guards_of};
 
 use crate::taken::ChainEnd;

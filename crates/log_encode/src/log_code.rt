@@ -1,9 +1,9 @@
 // The code of an alarm log, which grows by drafts.
 ghost use Rattle.std.specs.Prelude.{◌≡◌, ◌<◌, ◌≤◌, ◌+◌, ◌*◌, ◌++◌, ◌∷◌, [], ℕ, Some, true, false, ◌&&◌, length, vec_len, vec_capacity, slice_get, IfOk, IfSome, OnOk, OnErr};
-ghost use Rattle.log_clauses.specs.Additions.{alarm_added, pair_added};
-ghost use Rattle.log_clauses.specs.Decoded.{alarm_at, is_false_alarm};
-ghost use Rattle.log_clauses.specs.LogClauses.{guard_literals, matching_events};
-ghost use Rattle.log_clauses.specs.LogNames.{first_meanings};
+ghost use Rattle.question_clauses.specs.Additions.{alarm_added, pair_added};
+ghost use Rattle.question_clauses.specs.Decoded.{alarm_at, is_false_alarm};
+ghost use Rattle.question_clauses.specs.LogClauses.{guard_literals, matching_events};
+ghost use Rattle.question_clauses.specs.LogNames.{first_meanings};
 ghost use Rattle.prop_core.specs.Clauses.{value_in};
 ghost use Rattle.prop_core.specs.NamedClauses.{value_by};
 ghost use Rattle.prop_core.specs.VariableNames.{ReadsAs, meaning_of, named_clause, done};

@@ -1,6 +1,6 @@
 // The end of a coded log, where an alarm is drafted.
 ghost use Rattle.std.specs.Prelude.{◌≡◌, length, IfOk};
-ghost use Rattle.log_clauses.specs.Additions.{alarm_added};
+ghost use Rattle.question_clauses.specs.Additions.{alarm_added};
 ghost use Rattle.log_encode.specs.AlarmVariables.{AreWithinLimit};
 ghost use Rattle.log_encode.specs.CodedLog.{nameless};
 ghost use Rattle.log_encode.specs.Drafted.{IsDraftOf};

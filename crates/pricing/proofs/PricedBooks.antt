@@ -33,7 +33,7 @@ use Rattle.weight_counter.specs.declared.scale.Scale.{Scale}
 use Rattle.pricing.specs.LeastCost.{CostAlike, HasCostQuestion, IsPricedBy, LeavesCosts, cost_variables}
 use Rattle.proof_ledger.proofs.AxiomLists.{axioms_between}
 use Rattle.prop_core.proofs.Literals.{below_var, wider}
-use Rattle.run_clauses.proofs.Lists.{in_numbers}
+use Rattle.question_clauses.proofs.Lists.{in_numbers}
 
 -- ---- with costs that the fault events have alike
 

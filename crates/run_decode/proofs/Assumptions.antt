@@ -5,9 +5,9 @@ use Rattle.std.specs.List.{AllByRecursion}
 use Rattle.des_base.proofs.Elements.{all_append, all_from}
 use Rattle.des_base.specs.Lists.{EachPair}
 use Rattle.des_net.specs.Network.{Net, observable_events}
-use Rattle.log_clauses.proofs.Codes.{read_of}
-use Rattle.log_clauses.proofs.Lists.{all_at}
-use Rattle.log_clauses.specs.LogClauses.{chain, guard_literals}
+use Rattle.question_clauses.proofs.LogCodes.{read_of}
+use Rattle.question_clauses.proofs.Lists.{all_at}
+use Rattle.question_clauses.specs.LogClauses.{chain, guard_literals}
 use Rattle.log_order.specs.Log.{Log}
 use Rattle.prop_core.specs.Clauses.{negation}
 use Rattle.prop_core.specs.VariableNames.{Meaning, in_state, happens, asked, matches, done, unmatched, closed, dropped, reaches, some_of_first, NamedLiteral, yes, meaning_of, named_literal, named_clause, ReadsAs}

@@ -8,8 +8,8 @@ use Rattle.prop_core.proofs.Listed.{clause_written, listed_are_written}
 use Rattle.prop_core.specs.Clauses.{Clause}
 use Rattle.prop_core.specs.Listings.{written_by}
 use Rattle.prop_core.specs.declared.lit.Lit.{Lit}
-use Rattle.run_clauses.proofs.LaidOut.{steps_are_laid_out}
-use Rattle.run_clauses.specs.StepCodes.{StepsBelow}
+use Rattle.question_clauses.proofs.LaidOut.{steps_are_laid_out}
+use Rattle.question_clauses.specs.StepCodes.{StepsBelow}
 use Rattle.run_decode.specs.QuestionAxioms.{steps_built, inputs_built, alone_built, question_built, QuestionBegins, ColumnsAreCounted}
 use Rattle.run_decode.specs.WholeNaming.{AreInputs}
 use Rattle.step_encode.specs.Coded.{CodedSteps, code_meanings, code_grid, AppendsSteps}

@@ -2,7 +2,7 @@
 use Rattle.std.proofs.Common.{◌≡◌, true, false, [], ◌∷◌, length, drop, refl}
 use Rattle.std.specs.Prelude.{codes}
 use Rattle.des_net.specs.Models.{pump}
-use Rattle.log_clauses.specs.Additions.{Addition, alarm_added, pair_added}
+use Rattle.question_clauses.specs.Additions.{Addition, alarm_added, pair_added}
 use Rattle.log_encode.specs.CodedLog.{addition_width, nameless}
 use Rattle.log_order.specs.Log.{a_log, no_log}
 use Rattle.run_decode.specs.QuestionAxioms.{BuiltQuestion, added_axioms, added_built, column_built, question_built}

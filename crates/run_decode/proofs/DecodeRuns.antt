@@ -7,25 +7,23 @@ use Rattle.des_base.specs.Lists.{numbers_below}
 use Rattle.des_net.specs.Network.{Net, IsNetwork, label_of}
 use Rattle.des_net.specs.Width.{joined, IsPiece}
 use Rattle.log_order.specs.Log.{Log, ListsOnce, Keeps, IsValidLog}
-use Rattle.log_clauses.specs.Decoded.{alarm_event, comes, is_false_alarm, shown_at, unobservables, arranged, decoded}
-use Rattle.log_clauses.specs.LogLaws.{IsArranged}
-use Rattle.log_clauses.specs.LogTruth.{LogClausesHold, GuardsHold}
-use Rattle.log_clauses.proofs.Lists.{all_at}
-use Rattle.log_clauses.proofs.Sound.{log_is_sound, real_at}
+use Rattle.question_clauses.specs.Decoded.{alarm_event, comes, is_false_alarm, shown_at, unobservables, arranged, decoded}
+use Rattle.question_clauses.specs.LogLaws.{IsArranged}
+use Rattle.question_clauses.specs.LogTruth.{LogClausesHold, GuardsHold}
+use Rattle.question_clauses.proofs.Lists.{all_at, from_numbers, in_numbers}
+use Rattle.question_clauses.proofs.LogSound.{log_is_sound, real_at}
 use Rattle.log_encode.proofs.TakenLemmas.{map_count}
 use Rattle.log_encode.specs.CodedLog.{without_names}
 use Rattle.prop_core.specs.VariableNames.{Meaning, happens, done}
 use Rattle.replay.specs.declared.run.RunStep.{RunStep}
 use Rattle.replay.specs.Traced.{word_of, event_of}
-use Rattle.run_clauses.proofs.Exact.{steps_are_exact}
-use Rattle.run_clauses.proofs.Lists.{from_numbers, in_numbers}
-use Rattle.run_clauses.specs.Steps.{IsOrderOf, events_at, step_sets}
+use Rattle.question_clauses.proofs.StepsExact.{steps_are_exact}
+use Rattle.question_clauses.specs.Steps.{IsOrderOf, events_at, step_sets, StepClausesHold}
 use Rattle.run_decode.specs.Decoding.{plain_step, alarm_step, shown_steps, is_plain, plain_events, falls, no_alarm_event, first_steps, decoded_step, decoded_run}
 use Rattle.run_decode.proofs.ShownSteps.{shown_word}
 use Rattle.run_decode.proofs.SmallPieces.{piece_small}
-use Rattle.log_clauses.proofs.Rules.{false_first}
-use Rattle.run_clauses.proofs.Sound.{steps_are_sound}
-use Rattle.run_clauses.specs.Steps.{StepClausesHold}
+use Rattle.question_clauses.proofs.LogRules.{false_first}
+use Rattle.question_clauses.proofs.StepsSound.{steps_are_sound}
 use Rattle.std.proofs.lemmas.List.Elements.{filter_map-append}
 
 -- ---- words

@@ -8,13 +8,13 @@ use Rattle.des_base.proofs.Elements.{filter_has, filter_from, pairs_filter}
 use Rattle.des_base.specs.Lists.{numbers_below}
 use Rattle.des_net.specs.Network.{Net, is_fault}
 use Rattle.des_net.specs.Width.{joined}
-use Rattle.log_clauses.proofs.Entries.{same_size}
-use Rattle.log_clauses.specs.Decoded.{is_false_alarm}
+use Rattle.question_clauses.proofs.Entries.{same_size}
+use Rattle.question_clauses.specs.Decoded.{is_false_alarm}
 use Rattle.log_order.specs.Log.{Log, is_doubtful}
-use Rattle.log_clauses.proofs.Pieces.{IsStepSet, AreFrom, pieces_are_steps}
+use Rattle.question_clauses.proofs.Pieces.{IsStepSet, AreFrom, pieces_are_steps}
 use Rattle.prop_core.specs.NamedClauses.{named_true}
 use Rattle.prop_core.specs.VariableNames.{Meaning, happens, dropped, yes}
-use Rattle.run_clauses.proofs.Lists.{in_numbers, from_numbers}
+use Rattle.question_clauses.proofs.Lists.{in_numbers, from_numbers}
 use Rattle.run_decode.specs.DecodedRuns.{FaultsAreInputs}
 use Rattle.run_decode.specs.Drawn.{dropped_meanings}
 use Rattle.step_encode.specs.FaultInputs.{fault_events, fault_meanings}

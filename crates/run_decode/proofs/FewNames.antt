@@ -7,21 +7,21 @@ use Rattle.std.proofs.Math.Nat.{mul-le-mul_right}
 use Rattle.card_counter.proofs.CodeLemmas.{read_length}
 use Rattle.des_base.specs.ChainCount.{chain_count}
 use Rattle.des_base.specs.Lists.{numbers_below}
-use Rattle.log_clauses.specs.LogClauses.{doubtful_alarms}
+use Rattle.question_clauses.specs.LogClauses.{doubtful_alarms}
 use Rattle.card_counter.specs.CounterState.{CounterState, counter_meanings, variable}
 use Rattle.des_net.specs.Network.{Net, is_fault}
 use Rattle.des_net.specs.QuestionSize.{step_variables, counter_size, fault_event_count}
-use Rattle.log_clauses.proofs.NewNames.{names_leave_room, first_meanings_are_all}
-use Rattle.log_clauses.specs.Additions.{alarm_added}
-use Rattle.log_clauses.specs.LogNames.{first_meanings, added_meanings}
+use Rattle.question_clauses.proofs.NewNames.{names_leave_room, first_meanings_are_all}
+use Rattle.question_clauses.specs.Additions.{alarm_added}
+use Rattle.question_clauses.specs.LogNames.{first_meanings, added_meanings}
 use Rattle.log_encode.specs.CodedLog.{CodedLog, meanings_from, log_meanings, false_literals}
 use Rattle.log_order.specs.Log.{Log, Alarm, no_log, is_doubtful, a_log}
 use Rattle.prop_core.specs.declared.grid.Grid.{Grid}
 use Rattle.prop_core.specs.declared.lit.Lit.{Lit}
 use Rattle.prop_core.specs.VariableNames.{Meaning, reaches, yes, dropped}
 use Rattle.replay.specs.QuestionSize.{doubtful_count, variable_bound}
-use Rattle.run_clauses.specs.LaidOut.{laid_out, step_meanings}
-use Rattle.run_clauses.specs.StepClauses.{event_groups}
+use Rattle.question_clauses.specs.LaidOut.{laid_out, step_meanings}
+use Rattle.question_clauses.specs.StepClauses.{event_groups}
 use Rattle.run_decode.proofs.Nameless.{nameless_bound}
 use Rattle.run_decode.specs.WholeNaming.{AreInputs, TogetherAreFew}
 use Rattle.step_encode.proofs.Codes.{chains_wide, names_end, variables_are_counted, blocks_wide}

@@ -2,8 +2,8 @@
 use Rattle.std.proofs.Common.{◌≡◌, ◌≢◌, ℕ, List, [], ◌∷◌, ◌++◌, map, subst, Contains}
 use Rattle.std.proofs.lemmas.List.Elements.{Contains-append_left as append_left}
 use Rattle.des_base.proofs.Elements.{all_from, map_from, map_has, pairs_append}
-use Rattle.log_clauses.proofs.Codes.{named_entry}
-use Rattle.log_clauses.proofs.Lists.{all_at}
+use Rattle.question_clauses.proofs.LogCodes.{named_entry}
+use Rattle.question_clauses.proofs.Lists.{all_at}
 use Rattle.prop_core.proofs.FurtherNames.{reads_further}
 use Rattle.prop_core.specs.Clauses.{Clause}
 use Rattle.prop_core.specs.VariableNames.{Meaning, NamedLiteral, HasEachOnce, ReadsAs}

@@ -3,15 +3,15 @@ use Rattle.std.proofs.Common.{◌≡◌, ◌∙◌, ℕ, inl, inr, List, [], ◌
 use Rattle.std.proofs.lemmas.List.{map-append}
 use Rattle.card_counter.specs.CounterClauses.{CountClause, counts_on, counts_up, IsCountClause}
 use Rattle.des_net.specs.Network.{Net}
-use Rattle.log_clauses.proofs.Codes.{readings_stay}
-use Rattle.log_clauses.proofs.Growth.{additions_are_exact}
-use Rattle.log_clauses.proofs.Stay.{with_alarm, doubtful_is}
-use Rattle.log_clauses.specs.Additions.{Addition, alarm_added, pair_added, with_addition}
-use Rattle.log_clauses.specs.LogClauses.{doubtful_alarms}
+use Rattle.question_clauses.proofs.LogCodes.{readings_stay}
+use Rattle.question_clauses.proofs.Growth.{additions_are_exact}
+use Rattle.question_clauses.proofs.Stay.{with_alarm, doubtful_is}
+use Rattle.question_clauses.specs.Additions.{Addition, alarm_added, pair_added, with_addition}
+use Rattle.question_clauses.specs.LogClauses.{doubtful_alarms}
 use Rattle.log_order.specs.Log.{Log, is_doubtful}
 use Rattle.prop_core.specs.VariableNames.{NamedLiteral, yes, dropped}
 use Rattle.run_decode.specs.Drawn.{IsNamedClause, fault_inputs, dropped_meanings}
-use Rattle.run_clauses.proofs.Lists.{get_more}
+use Rattle.question_clauses.proofs.Lists.{get_more}
 use Rattle.step_encode.specs.FaultInputs.{fault_meanings}
 use Rattle.run_decode.specs.QuestionLaws.{InstancesStay}
 

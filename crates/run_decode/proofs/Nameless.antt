@@ -8,9 +8,9 @@ use Rattle.card_counter.specs.Exclusions.{IsExclusionClause}
 use Rattle.des_base.proofs.Elements.{filter_alike}
 use Rattle.des_base.specs.Lists.{numbers_below}
 use Rattle.des_net.specs.Network.{Net, label_of, observable_events}
-use Rattle.log_clauses.specs.Decoded.{alarm_at, alarm_event, is_false_alarm, comes, decoded_entry, arranged, arranged_order, whole_order}
-use Rattle.log_clauses.specs.LogClauses.{guard_literals, chain, matching_events, LogClause, log_clause, IsLogClause, chain_closed, takes_rest, uses_up, passes_on, taken_or_passed, not_done_first, stays_done, match_is_done, matched_once, match_is_real, done_by_match, one_match, done_if_asked, before_if_asked, or_false}
-use Rattle.log_clauses.specs.LogCodes.{IsNamedLog}
+use Rattle.question_clauses.specs.Decoded.{alarm_at, alarm_event, is_false_alarm, comes, decoded_entry, arranged, arranged_order, whole_order}
+use Rattle.question_clauses.specs.LogClauses.{guard_literals, chain, matching_events, LogClause, log_clause, IsLogClause, chain_closed, takes_rest, uses_up, passes_on, taken_or_passed, not_done_first, stays_done, match_is_done, matched_once, match_is_real, done_by_match, one_match, done_if_asked, before_if_asked, or_false}
+use Rattle.question_clauses.specs.LogCodes.{IsNamedLog}
 use Rattle.log_encode.specs.CodedLog.{without_names, nameless}
 use Rattle.log_order.specs.Log.{Log, Alarm, labels_of, is_doubtful}
 use Rattle.prop_core.proofs.FamilyLemmas.{code_same}
@@ -21,7 +21,7 @@ use Rattle.prop_core.specs.declared.lit.Lit.{Lit}
 use Rattle.des_net.specs.QuestionSize.{step_variables, observable_count, counter_size}
 use Rattle.replay.specs.Explanation.{is_matching}
 use Rattle.replay.specs.QuestionSize.{alarm_variables, doubtful_count, variable_bound}
-use Rattle.run_clauses.specs.Steps.{step_sets}
+use Rattle.question_clauses.specs.Steps.{step_sets}
 use Rattle.run_decode.specs.Drawn.{IsNamedClause, IsNamedCounting, IsInstance, fault_inputs, at_most, bound_literals, assumption_literals}
 use Rattle.card_counter.specs.CounterClauses.{IsNamedCount}
 use Rattle.step_encode.specs.FaultInputs.{fault_meanings}

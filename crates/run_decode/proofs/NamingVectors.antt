@@ -6,7 +6,7 @@ use Rattle.card_counter.specs.CounterState.{CounterState, IsMade, without_column
 use Rattle.des_net.specs.Models.{pump}
 use Rattle.log_encode.proofs.CodeLemmas.{empty_is_coded}
 use Rattle.log_order.specs.Log.{Alarm}
-use Rattle.log_clauses.specs.Additions.{alarm_added}
+use Rattle.question_clauses.specs.Additions.{alarm_added}
 use Rattle.log_encode.specs.CodedLog.{nameless, CodedLog, empty_code}
 use Rattle.prop_core.specs.VariableNames.{in_state, happens, asked, closed, reaches}
 use Rattle.prop_core.specs.declared.lit.Lit.{Lit}

@@ -2,15 +2,15 @@
 use Rattle.std.proofs.Common.{ℕ, ◌⊎◌, inl, inr, List, ◌++◌, Contains}
 use Rattle.card_counter.specs.CounterClauses.{IsNamedCount}
 use Rattle.des_base.proofs.Elements.{all_from}
-use Rattle.log_clauses.proofs.Codes.{readings_stay, code_stays}
-use Rattle.log_clauses.proofs.Lists.{all_at}
-use Rattle.log_clauses.specs.LogClauses.{guard_literals}
-use Rattle.log_clauses.specs.LogCodes.{IsNamedLog}
+use Rattle.question_clauses.proofs.LogCodes.{readings_stay, code_stays}
+use Rattle.question_clauses.proofs.Lists.{all_at}
+use Rattle.question_clauses.specs.LogClauses.{guard_literals}
+use Rattle.question_clauses.specs.LogCodes.{IsNamedLog}
 use Rattle.prop_core.proofs.FamilyLemmas.{read_append}
 use Rattle.prop_core.specs.Clauses.{Clause}
 use Rattle.prop_core.specs.NamedClauses.{IsCode, IsThere}
 use Rattle.prop_core.specs.VariableNames.{Meaning, NamedLiteral, HasEachOnce, ReadsAs}
-use Rattle.run_clauses.specs.StepCodes.{IsNamedStep}
+use Rattle.question_clauses.specs.StepCodes.{IsNamedStep}
 use Rattle.run_decode.specs.Drawn.{fault_inputs, bound_literals}
 use Rattle.run_decode.specs.Question.{IsNamedQuestion, IsCodeAmong}
 use Rattle.run_decode.specs.QuestionLaws.{PartsMakeQuestion, PartsAreAssumed}

@@ -4,19 +4,19 @@ use Rattle.card_counter.specs.CounterClauses.{IsNamedCount}
 use Rattle.des_base.proofs.Elements.{all_append, all_split, all_from}
 use Rattle.des_net.specs.Network.{Net}
 use Rattle.des_net.specs.Width.{joined}
-use Rattle.log_clauses.proofs.Guards.{literals_by_name}
-use Rattle.log_clauses.proofs.Lists.{all_at}
-use Rattle.log_clauses.specs.Decoded.{decoded, decoded_order}
-use Rattle.log_clauses.specs.LogClauses.{log_clause, guard_literals}
-use Rattle.log_clauses.specs.LogTruth.{LogClausesHold, GuardsHold}
+use Rattle.question_clauses.proofs.Guards.{literals_by_name}
+use Rattle.question_clauses.proofs.Lists.{all_at}
+use Rattle.question_clauses.specs.Decoded.{decoded, decoded_order}
+use Rattle.question_clauses.specs.LogClauses.{log_clause, guard_literals}
+use Rattle.question_clauses.specs.LogTruth.{LogClausesHold, GuardsHold}
 use Rattle.log_order.specs.Log.{Log}
 use Rattle.prop_core.proofs.NameLemmas.{values_match, assignments_match, code_holds}
 use Rattle.prop_core.specs.Clauses.{Clause, AllClausesTrue}
 use Rattle.prop_core.specs.NamedClauses.{named_true, named_clause_true, Match, value_by, assignment_by, AllHold}
 use Rattle.prop_core.specs.VariableNames.{Meaning, NamedLiteral, ReadsAs}
 use Rattle.prop_core.specs.declared.lit.Lit.{Lit}
-use Rattle.run_clauses.proofs.StepCode.{steps_from_all, all_from_steps}
-use Rattle.run_clauses.specs.Steps.{StepClausesHold}
+use Rattle.question_clauses.proofs.StepCode.{steps_from_all, all_from_steps}
+use Rattle.question_clauses.specs.Steps.{StepClausesHold}
 use Rattle.run_decode.proofs.Assumptions.{assumptions_are_consistent}
 use Rattle.run_decode.proofs.RunsGiven.{decoded_by_name, gives_explanation}
 use Rattle.run_decode.proofs.Truths.{QuestionHolds, BoundHolds, bound_says, explained_has_truth, question_has_truth}

@@ -2,8 +2,8 @@
 use Rattle.std.proofs.Common.{◌≡◌, ◌∙◌, ℕ, suc, zero, ◌-◌, List, [], ◌∷◌, length, Option, Some, None, refl, sym, ap, subst, arith, option_map}
 use Rattle.card_counter.proofs.CodeLemmas.{read_length}
 use Rattle.card_counter.specs.CounterState.{variable, negative, bound_literal}
-use Rattle.log_clauses.proofs.Codes.{read_of, has_name, named_entry}
-use Rattle.log_clauses.specs.LogCodes.{AreAmong}
+use Rattle.question_clauses.proofs.LogCodes.{read_of, has_name, named_entry}
+use Rattle.question_clauses.specs.LogCodes.{AreAmong}
 use Rattle.prop_core.proofs.FamilyLemmas.{reads_whole}
 use Rattle.prop_core.specs.Clauses.{Clause}
 use Rattle.prop_core.specs.VariableNames.{Meaning, NamedLiteral, reaches, no, HasEachOnce, meaning_of, named_literal, named_clause, with_literal, ReadsAs}

@@ -3,21 +3,21 @@ use Rattle.std.proofs.Common.{◌≡◌, ◌∙◌, ℕ, Bool, List, [], ◌∷�
 use Rattle.std.proofs.lemmas.Option.{same_Some}
 use Rattle.card_counter.proofs.Counts.{count_cons}
 use Rattle.des_net.specs.Network.{Net, IsNetwork}
-use Rattle.log_clauses.proofs.Codes.{read_of}
-use Rattle.log_clauses.proofs.Explained.{assignments_explain}
-use Rattle.log_clauses.proofs.Sound.{log_is_sound}
-use Rattle.log_clauses.specs.Decoded.{decoded, decoded_order}
-use Rattle.log_clauses.specs.LogCodeLaws.{IsDecoded}
-use Rattle.log_clauses.specs.LogTruth.{LogClausesHold, GuardsHold}
+use Rattle.question_clauses.proofs.LogCodes.{read_of}
+use Rattle.question_clauses.proofs.Explained.{assignments_explain}
+use Rattle.question_clauses.proofs.LogSound.{log_is_sound}
+use Rattle.question_clauses.specs.Decoded.{decoded, decoded_order}
+use Rattle.question_clauses.specs.LogCodeLaws.{IsDecoded}
+use Rattle.question_clauses.specs.LogTruth.{LogClausesHold, GuardsHold}
 use Rattle.log_order.specs.Log.{Log, ListsOnce, Keeps, IsValidLog}
 use Rattle.prop_core.proofs.NameLemmas.{values_match, literal_is}
 use Rattle.prop_core.specs.Clauses.{literal_true}
 use Rattle.prop_core.specs.NamedClauses.{named_true, Match, value_by}
 use Rattle.prop_core.specs.VariableNames.{Meaning, NamedLiteral, HasEachOnce, named_clause}
 use Rattle.prop_core.specs.declared.lit.Lit.{Lit}
-use Rattle.run_clauses.proofs.Exact.{sets_in_order}
-use Rattle.run_clauses.proofs.Sound.{steps_are_sound}
-use Rattle.run_clauses.specs.Steps.{StepClausesHold, step_sets}
+use Rattle.question_clauses.proofs.StepsExact.{sets_in_order}
+use Rattle.question_clauses.proofs.StepsSound.{steps_are_sound}
+use Rattle.question_clauses.specs.Steps.{StepClausesHold, step_sets}
 use Rattle.run_decode.proofs.Faults.{faults_are_inputs}
 use Rattle.run_decode.specs.DecodedRuns.{GivesExplanation, DecodedExplains}
 use Rattle.run_decode.specs.Drawn.{fault_inputs}

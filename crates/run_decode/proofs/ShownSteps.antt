@@ -4,7 +4,7 @@ use Rattle.des_base.proofs.Elements.{here_first, here_later}
 use Rattle.des_base.specs.Names.{place_of}
 use Rattle.log_order.specs.Adding.{names_of}
 use Rattle.log_order.specs.Log.{Log, id_of}
-use Rattle.log_clauses.specs.Decoded.{is_false_alarm, comes, entries_at}
+use Rattle.question_clauses.specs.Decoded.{is_false_alarm, comes, entries_at}
 use Rattle.prop_core.specs.VariableNames.{Meaning}
 use Rattle.replay.specs.Explanation.{Entry}
 use Rattle.replay.specs.Matching.{order_of}

@@ -11,9 +11,8 @@ use Rattle.des_base.specs.Lists.{EachPair, numbers_below}
 use Rattle.des_net.specs.declared.parts.Part.{Part}
 use Rattle.des_net.specs.Network.{Net, IsNetwork, IsEvent, IsPart, has_part, parts_of, touches, event_at, no_event}
 use Rattle.des_net.specs.Width.{IsPiece, AreApart}
-use Rattle.log_clauses.proofs.Entries.{no_longer}
-use Rattle.log_clauses.proofs.Lists.{all_at}
-use Rattle.run_clauses.proofs.Lists.{in_numbers}
+use Rattle.question_clauses.proofs.Entries.{no_longer}
+use Rattle.question_clauses.proofs.Lists.{all_at, in_numbers}
 
 -- the component of the first part
 pub first_of : List Part → ℕ

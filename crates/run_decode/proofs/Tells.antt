@@ -4,9 +4,9 @@ use Rattle.des_base.proofs.Elements.{all_append, all_from as all_of, all_split}
 use Rattle.des_base.specs.Lists.{EachPair}
 use Rattle.des_net.specs.Network.{Net, IsNetwork}
 use Rattle.des_net.specs.Width.{joined}
-use Rattle.log_clauses.proofs.Guards.{literals_by_name}
-use Rattle.log_clauses.proofs.Lists.{all_at}
-use Rattle.log_clauses.specs.Decoded.{decoded, decoded_order}
+use Rattle.question_clauses.proofs.Guards.{literals_by_name}
+use Rattle.question_clauses.proofs.Lists.{all_at}
+use Rattle.question_clauses.specs.Decoded.{decoded, decoded_order}
 use Rattle.log_order.specs.Log.{Log, IsValidLog}
 use Rattle.prop_core.proofs.NameLemmas.{assignments_match}
 use Rattle.prop_core.proofs.Premises.{opposite}

@@ -10,19 +10,19 @@ use Rattle.des_base.specs.Lists.{numbers_below}
 use Rattle.des_net.specs.Network.{Net, Component, IsNetwork, IsComponent}
 use Rattle.des_net.specs.Run.{IsRun}
 use Rattle.des_net.specs.Width.{IsPiece, joined}
-use Rattle.log_clauses.proofs.Complete.{log_is_complete}
-use Rattle.log_clauses.proofs.Open.{log_is_open}
-use Rattle.log_clauses.proofs.ReadNames.{only_log_matters}
-use Rattle.log_clauses.specs.Coded.{opened}
-use Rattle.log_clauses.specs.LogClauses.{doubtful_alarms}
-use Rattle.log_clauses.specs.LogLaws.{HasFalse}
-use Rattle.log_clauses.specs.LogTruth.{LogClausesHold, GuardsHold, is_of_log}
+use Rattle.question_clauses.proofs.LogComplete.{log_is_complete}
+use Rattle.question_clauses.proofs.LogOpen.{log_is_open}
+use Rattle.question_clauses.proofs.ReadNames.{only_log_matters}
+use Rattle.question_clauses.specs.Coded.{opened}
+use Rattle.question_clauses.specs.LogClauses.{doubtful_alarms}
+use Rattle.question_clauses.specs.LogLaws.{HasFalse}
+use Rattle.question_clauses.specs.LogTruth.{LogClausesHold, GuardsHold, is_of_log}
 use Rattle.log_order.specs.Log.{Log}
 use Rattle.prop_core.specs.NamedClauses.{named_true, AllHold}
 use Rattle.prop_core.specs.VariableNames.{Meaning, in_state, happens, asked, matches, done, unmatched, closed, dropped, reaches, some_of_first, Exclusion, of_states, of_events, of_matches, NamedLiteral, yes}
 use Rattle.replay.specs.Explanation.{Entry, faults_of, Explains, Linearises}
-use Rattle.run_clauses.proofs.Exact.{runs_have_steps, only_steps_matter, same_sets}
-use Rattle.run_clauses.specs.Steps.{StepClausesHold, AreSteps, AgreeOnSteps, is_event, is_of_steps}
+use Rattle.question_clauses.proofs.StepsExact.{runs_have_steps, only_steps_matter, same_sets}
+use Rattle.question_clauses.specs.Steps.{StepClausesHold, AreSteps, AgreeOnSteps, is_event, is_of_steps}
 use Rattle.run_decode.proofs.Faults.{faults_are_inputs}
 use Rattle.run_decode.specs.DecodedRuns.{true_faults}
 use Rattle.run_decode.specs.Drawn.{fault_inputs, dropped_meanings, at_most, bound_literals}

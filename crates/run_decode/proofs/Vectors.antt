@@ -6,12 +6,12 @@ use Rattle.des_base.proofs.Elements.{cons_cases, here_first, here_later, none_in
 use Rattle.des_base.specs.Lists.{numbers_below}
 use Rattle.des_net.specs.Models.{apart, pump}
 use Rattle.des_net.specs.QuestionSize.{component_state_count}
-use Rattle.log_clauses.specs.LogClauses.{LogClause, log_clause, IsLogClause, chain_closed, takes_rest, uses_up, passes_on, taken_or_passed, not_done_first, stays_done, match_is_done, matched_once, match_is_real, done_by_match, one_match, done_if_asked, before_if_asked}
+use Rattle.question_clauses.specs.LogClauses.{LogClause, log_clause, IsLogClause, chain_closed, takes_rest, uses_up, passes_on, taken_or_passed, not_done_first, stays_done, match_is_done, matched_once, match_is_real, done_by_match, one_match, done_if_asked, before_if_asked}
 use Rattle.log_order.specs.Log.{no_log}
 use Rattle.prop_core.proofs.FamilyLemmas.{reads_whole}
 use Rattle.prop_core.specs.VariableNames.{Meaning, in_state, happens, asked, matches, done, unmatched, closed, reaches, some_of_first, of_states, of_events, NamedLiteral, yes, no, named_clause}
 use Rattle.prop_core.specs.declared.lit.Lit.{Lit}
-use Rattle.run_clauses.specs.StepClauses.{StepClause, step_clause, IsStepClause, some_state, one_state, not_at_start, moves, stays, one_of_group, not_both, event_groups, state_inputs, group_inputs}
+use Rattle.question_clauses.specs.StepClauses.{StepClause, step_clause, IsStepClause, some_state, one_state, not_at_start, moves, stays, one_of_group, not_both, event_groups, state_inputs, group_inputs}
 use Rattle.run_decode.specs.Drawn.{fault_inputs, bound_literals, assumption_literals, IsNamedClause, IsInstance}
 use Rattle.std.proofs.lemmas.List.Elements.{Contains-append_right}
 

@@ -3,7 +3,7 @@ use Rattle.std.proofs.Common.{◌≡◌, ◌↔◌, ◌⊎◌, inl, inr, ℕ, �
 use Rattle.card_counter.proofs.States.{columns_add_clauses}
 use Rattle.card_counter.proofs.Inputs.{inputs_add_clauses}
 use Rattle.des_base.proofs.Elements.{none_in_nil}
-use Rattle.log_clauses.specs.Additions.{Addition, alarm_added, pair_added}
+use Rattle.question_clauses.specs.Additions.{Addition, alarm_added, pair_added}
 use Rattle.prop_core.specs.declared.lit.Lit.{Lit}
 use Rattle.card_counter.specs.CounterState.{CounterState, column_clauses, column_before, column_at, counter_clauses, next_clauses, input_clauses, with_input, IsFull}
 use Rattle.log_encode.proofs.WrittenLemmas.{written_grows}

@@ -6,17 +6,17 @@ use Rattle.card_counter.proofs.States.{place_cases, variable_before, variable_la
 use Rattle.card_counter.proofs.Inputs.{inputs_grow, place_cases as places_with_input}
 use Rattle.card_counter.specs.CounterClauses.{IsNamedCount}
 use Rattle.card_counter.specs.CounterState.{CounterState, IsCounter, IsMade, IsPlace, variable, counter_meanings, counter_clauses, bound_literal, without_columns, with_column, with_input, HasInput}
-use Rattle.log_clauses.proofs.Lists.{all_at}
-use Rattle.log_clauses.proofs.Numbered.{laid_out_from}
-use Rattle.log_clauses.specs.Additions.{Addition, alarm_added, pair_added}
-use Rattle.log_clauses.specs.Drafts.{taken_events}
-use Rattle.log_clauses.specs.LogClauses.{guard_literals}
-use Rattle.log_clauses.specs.LogCodes.{IsNamedLog, AreAmong}
-use Rattle.log_clauses.specs.LogNames.{IsLogMeaning, added_meanings, alarm_meanings, match_chains, false_meanings}
+use Rattle.question_clauses.proofs.Lists.{all_at}
+use Rattle.question_clauses.proofs.Numbered.{laid_out_from}
+use Rattle.question_clauses.specs.Additions.{Addition, alarm_added, pair_added}
+use Rattle.question_clauses.specs.Drafts.{taken_events}
+use Rattle.question_clauses.specs.LogClauses.{guard_literals}
+use Rattle.question_clauses.specs.LogCodes.{IsNamedLog, AreAmong}
+use Rattle.question_clauses.specs.LogNames.{IsLogMeaning, added_meanings, alarm_meanings, match_chains, false_meanings}
 use Rattle.log_encode.proofs.CodeLemmas.{names_with_alarm, asked_below, grown_is_coded, false_more}
 use Rattle.log_encode.specs.CodedLog.{CodedLog, log_meanings, read_meanings, false_literals, addition_width, code_after, IsCodedLog}
 use Rattle.des_base.specs.declared.TheConstants.{VAR_LIMIT}
-use Rattle.log_clauses.proofs.Codes.{has_name, named_entry}
+use Rattle.question_clauses.proofs.LogCodes.{has_name, named_entry}
 use Rattle.log_order.specs.Log.{Alarm}
 use Rattle.prop_core.proofs.FamilyLemmas.{read_append}
 use Rattle.run_decode.specs.DecodedRuns.{AreFaultLiterals}
@@ -26,8 +26,8 @@ use Rattle.prop_core.specs.NamedClauses.{IsCode}
 use Rattle.prop_core.specs.VariableNames.{Meaning, dropped, yes, reaches, HasEachOnce, ReadsAs, named_clause, with_literal}
 use Rattle.prop_core.specs.declared.grid.Grid.{Grid}
 use Rattle.prop_core.specs.declared.lit.Lit.{Lit}
-use Rattle.run_clauses.proofs.LaidOut.{steps_are_laid_out, named_at}
-use Rattle.run_clauses.specs.LaidOut.{laid_out, event_block}
+use Rattle.question_clauses.proofs.LaidOut.{steps_are_laid_out, named_at}
+use Rattle.question_clauses.specs.LaidOut.{laid_out, event_block}
 use Rattle.run_decode.proofs.Parts.{parts_make_question, parts_are_assumed}
 use Rattle.run_decode.proofs.RunNames.{is_step, Differ, step_entry, log_entry, steps_and_log, events_among, inputs_read}
 use Rattle.run_decode.proofs.Reading.{clause_stays, bound_is_read}

@@ -2,7 +2,7 @@
 use Rattle.std.proofs.Common.{◌≡◌, ℕ, Bool, true, false, if◌then◌else◌, [], ◌+◌, refl}
 use Rattle.card_counter.proofs.States.{room_is_counter}
 use Rattle.card_counter.specs.CounterState.{CounterState, AreAlike, with_input, with_room, input_clauses}
-use Rattle.log_clauses.specs.Additions.{Addition, alarm_added, pair_added}
+use Rattle.question_clauses.specs.Additions.{Addition, alarm_added, pair_added}
 use Rattle.log_encode.specs.CodedLog.{CodedLog, addition_width}
 use Rattle.prop_core.specs.declared.lit.Lit.{Lit}
 use Rattle.run_decode.specs.WholeNaming.{false_input, counter_after, counted_after, RoomIsFree}

@@ -3,17 +3,17 @@ use Rattle.std.specs.Prelude.{◌≡◌, ℕ, Bool, List, length, Some, count_by
 use Rattle.card_counter.specs.Counting.{true_count}
 use Rattle.des_net.specs.Network.{Net, IsNetwork}
 use Rattle.des_net.specs.Width.{joined}
-use Rattle.log_clauses.specs.Decoded.{decoded, decoded_order}
-use Rattle.log_clauses.specs.LogCodes.{AreAmong}
-use Rattle.log_clauses.specs.LogLaws.{HasFalse}
+use Rattle.question_clauses.specs.Decoded.{decoded, decoded_order}
+use Rattle.question_clauses.specs.LogCodes.{AreAmong}
+use Rattle.question_clauses.specs.LogLaws.{HasFalse}
 use Rattle.replay.specs.Explanation.{Entry, faults_of}
-use Rattle.log_clauses.specs.LogCodeLaws.{IsDecoded, IsUnboundedQuestion, MakesQuestionTrue}
+use Rattle.question_clauses.specs.LogCodeLaws.{IsDecoded, IsUnboundedQuestion, MakesQuestionTrue}
 use Rattle.log_order.specs.Log.{Log, ListsOnce, Keeps, IsValidLog}
 use Rattle.prop_core.specs.Clauses.{Clause}
 use Rattle.prop_core.specs.NamedClauses.{named_true, value_by}
 use Rattle.prop_core.specs.VariableNames.{Meaning, HasEachOnce, named_clause}
 use Rattle.prop_core.specs.declared.lit.Lit.{Lit}
-use Rattle.run_clauses.specs.Steps.{AreSteps}
+use Rattle.question_clauses.specs.Steps.{AreSteps}
 use Rattle.run_decode.specs.Drawn.{fault_inputs}
 
 -- how many fault events happen in the steps, and doubtful alarms are false, by the truth of their meanings

@@ -4,12 +4,12 @@ use Rattle.std.specs.List.{AllByRecursion}
 use Rattle.card_counter.specs.CounterClauses.{CountClause, count_clause, IsCountClause}
 use Rattle.des_net.specs.Network.{Net}
 use Rattle.log_order.specs.Log.{Log}
-use Rattle.log_clauses.specs.LogClauses.{guard_literals, doubtful_alarms}
-use Rattle.log_clauses.specs.LogCodes.{IsNamedLog}
+use Rattle.question_clauses.specs.LogClauses.{guard_literals, doubtful_alarms}
+use Rattle.question_clauses.specs.LogCodes.{IsNamedLog}
 use Rattle.prop_core.specs.Clauses.{Clause}
 use Rattle.prop_core.specs.VariableNames.{Meaning, dropped, reaches, NamedLiteral, yes, no, HasEachOnce, ReadsAs}
 use Rattle.prop_core.specs.declared.lit.Lit.{Lit}
-use Rattle.run_clauses.specs.StepCodes.{IsNamedStep}
+use Rattle.question_clauses.specs.StepCodes.{IsNamedStep}
 use Rattle.step_encode.specs.FaultInputs.{fault_meanings}
 
 -- that a doubtful alarm is false, for each of them

@@ -2,13 +2,13 @@
 use Rattle.std.specs.Prelude.{◌⊎◌, ℕ, ◌<◌, ⊤, List, length, Option, Some, None}
 use Rattle.card_counter.specs.CounterClauses.{IsNamedCount}
 use Rattle.des_net.specs.Network.{Net}
-use Rattle.log_clauses.specs.LogCodes.{IsNamedLog, AreAmong}
+use Rattle.question_clauses.specs.LogCodes.{IsNamedLog, AreAmong}
 use Rattle.log_order.specs.Log.{Log}
 use Rattle.prop_core.specs.Clauses.{Clause}
 use Rattle.prop_core.specs.NamedClauses.{IsCode}
 use Rattle.prop_core.specs.VariableNames.{Meaning, NamedLiteral, HasEachOnce, ReadsAs}
 use Rattle.prop_core.specs.declared.lit.Lit.{Lit}
-use Rattle.run_clauses.specs.StepCodes.{IsNamedStep}
+use Rattle.question_clauses.specs.StepCodes.{IsNamedStep}
 use Rattle.run_decode.specs.Drawn.{fault_inputs, assumption_literals}
 
 -- the clauses of the steps, of the log, and of `columns` columns of the counter

@@ -2,15 +2,15 @@
 use Rattle.std.specs.Prelude.{◌≡◌, ℕ, zero, suc, ◌+◌, if◌then◌else◌, List, [], ◌++◌, map, length}
 use Rattle.card_counter.specs.CounterState.{CounterState, without_columns, with_column, next_clauses}
 use Rattle.des_net.specs.Network.{Net}
-use Rattle.log_clauses.specs.Additions.{Addition, alarm_added, pair_added}
-use Rattle.log_clauses.specs.Drafts.{added_list}
+use Rattle.question_clauses.specs.Additions.{Addition, alarm_added, pair_added}
+use Rattle.question_clauses.specs.Drafts.{added_list}
 use Rattle.log_encode.specs.BuiltLog.{BuiltLog, built_log}
 use Rattle.log_encode.specs.CodedLog.{CodedLog, log_meanings, read_meanings, code_after, addition_width, false_literals, without_names, IsCodedLog}
 use Rattle.log_order.specs.Log.{Log}
 use Rattle.prop_core.specs.Clauses.{Clause}
 use Rattle.prop_core.specs.Listings.{literal_by, written_by}
 use Rattle.prop_core.specs.declared.lit.Lit.{Lit}
-use Rattle.run_clauses.specs.StepCodes.{StepsBelow}
+use Rattle.question_clauses.specs.StepCodes.{StepsBelow}
 use Rattle.run_decode.specs.WholeNaming.{AreInputs, counter_after, counted_after}
 use Rattle.step_encode.specs.Coded.{CodedSteps, code_meanings, code_grid, variable_count, AppendsSteps}
 use Rattle.step_encode.specs.FaultInputs.{fault_literals}

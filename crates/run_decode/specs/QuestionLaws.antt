@@ -6,17 +6,17 @@ use Rattle.des_net.specs.Width.{joined}
 use Rattle.card_counter.specs.CounterClauses.{IsNamedCount}
 use Rattle.card_counter.specs.CounterState.{CounterState, IsCounter, bound_literal}
 use Rattle.card_counter.specs.Counting.{IsNamedBy}
-use Rattle.log_clauses.specs.Additions.{Addition, with_addition}
-use Rattle.log_clauses.specs.Decoded.{decoded, decoded_order}
-use Rattle.log_clauses.specs.LogClauses.{guard_literals}
-use Rattle.log_clauses.specs.LogCodes.{IsNamedLog, AreAmong}
+use Rattle.question_clauses.specs.Additions.{Addition, with_addition}
+use Rattle.question_clauses.specs.Decoded.{decoded, decoded_order}
+use Rattle.question_clauses.specs.LogClauses.{guard_literals}
+use Rattle.question_clauses.specs.LogCodes.{IsNamedLog, AreAmong}
 use Rattle.log_encode.specs.CodedLog.{without_names}
 use Rattle.log_order.specs.Log.{Log, ListsOnce, Keeps, IsValidLog}
 use Rattle.prop_core.specs.Clauses.{Clause}
 use Rattle.prop_core.specs.NamedClauses.{value_by}
 use Rattle.prop_core.specs.VariableNames.{Meaning, HasEachOnce, ReadsAs}
 use Rattle.prop_core.specs.declared.lit.Lit.{Lit}
-use Rattle.run_clauses.specs.StepCodes.{IsNamedStep}
+use Rattle.question_clauses.specs.StepCodes.{IsNamedStep}
 use Rattle.run_decode.specs.DecodedRuns.{GivesExplanation}
 use Rattle.run_decode.specs.Drawn.{IsInstance, IsDrawn, fault_inputs, bound_literals, assumption_literals}
 use Rattle.run_decode.specs.Faithful.{IsWithin, MakesTrue, IsFaithful}

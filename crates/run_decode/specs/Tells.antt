@@ -3,14 +3,14 @@ use Rattle.std.specs.Prelude.{◌≢◌, ◌↔◌, ◌⊎◌, ℕ, Bool, List, 
 use Rattle.des_base.specs.Lists.{EachPair}
 use Rattle.des_net.specs.Network.{Net}
 use Rattle.des_net.specs.Width.{joined}
-use Rattle.log_clauses.specs.LogLaws.{HasFalse}
+use Rattle.question_clauses.specs.LogLaws.{HasFalse}
 use Rattle.log_order.specs.Log.{Log}
 use Rattle.prop_core.specs.Clauses.{Clause, negation, AllClausesTrue}
 use Rattle.prop_core.specs.NamedClauses.{value_by, assignment_by}
 use Rattle.prop_core.specs.VariableNames.{Meaning}
 use Rattle.prop_core.specs.declared.lit.Lit.{Lit}
 use Rattle.replay.specs.Explanation.{Entry, Explains, faults_of}
-use Rattle.run_clauses.specs.Steps.{AreSteps}
+use Rattle.question_clauses.specs.Steps.{AreSteps}
 use Rattle.run_decode.specs.Faithful.{IsWithin, MakesTrue, IsFaithful}
 
 -- a property of a word and an order of the alarms

@@ -3,9 +3,9 @@ use Rattle.std.specs.Prelude.{◌≡◌, ◌≢◌, ◌↔◌, ◌⊎◌, ℕ, �
 use Rattle.card_counter.specs.CounterState.{CounterState, IsCounter, IsMade, IsPlace, variable, counter_meanings, counter_clauses, next_clauses, input_clauses, bound_literal, without_columns, with_column, with_input, with_room, AreAlike, IsFull}
 use Rattle.card_counter.specs.Counting.{IsNamedBy}
 use Rattle.des_base.specs.declared.TheConstants.{VAR_LIMIT, MOST_COLUMNS}
-use Rattle.log_clauses.specs.Additions.{Addition, alarm_added, pair_added}
-use Rattle.log_clauses.specs.LogClauses.{guard_literals}
-use Rattle.log_clauses.specs.LogCodes.{AreAmong}
+use Rattle.question_clauses.specs.Additions.{Addition, alarm_added, pair_added}
+use Rattle.question_clauses.specs.LogClauses.{guard_literals}
+use Rattle.question_clauses.specs.LogCodes.{AreAmong}
 use Rattle.log_order.specs.Log.{Log, Alarm}
 use Rattle.replay.specs.QuestionSize.{variable_bound}
 use Rattle.log_encode.specs.CodedLog.{without_names, CodedLog, log_meanings, read_meanings, code_after, addition_width}
@@ -15,7 +15,7 @@ use Rattle.prop_core.specs.Clauses.{Clause}
 use Rattle.prop_core.specs.NamedClauses.{IsCode}
 use Rattle.prop_core.specs.VariableNames.{Meaning, HasEachOnce, ReadsAs}
 use Rattle.prop_core.specs.declared.lit.Lit.{Lit}
-use Rattle.run_clauses.specs.StepCodes.{IsNamedStep}
+use Rattle.question_clauses.specs.StepCodes.{IsNamedStep}
 use Rattle.run_decode.specs.DecodedRuns.{AreFaultLiterals}
 use Rattle.run_decode.specs.Drawn.{fault_inputs}
 use Rattle.run_decode.specs.Question.{Asks}

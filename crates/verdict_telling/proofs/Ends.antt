@@ -13,7 +13,7 @@ use Rattle.least_faults.proofs.Freshness.{fresh_none}
 use Rattle.least_faults.specs.Growing.{HasGrownWithin}
 use Rattle.proof_ledger.specs.Book.{BookEntry}
 use Rattle.report.specs.VerdictTexts.{text_of_verdict}
-use Rattle.run_clauses.proofs.Lists.{from_numbers}
+use Rattle.question_clauses.proofs.Lists.{from_numbers}
 use Rattle.step_encode.specs.FaultInputs.{fault_events}
 use Rattle.telling.proofs.Joining.{tells_more, tells_one}
 use Rattle.telling.specs.Telling.{EachGoes, TellsEach}

@@ -4,7 +4,7 @@ use Rattle.alarm_session.proofs.Refusing.{accepted, refused_by_size}
 use Rattle.alarm_session.proofs.adding.draft_alarm.Goals as goal
 use Rattle.log_encode.specs.CodedLog.{nameless}
 use Rattle.log_encode.specs.Drafted.{IsDraftOf}
-use Rattle.log_clauses.specs.Additions.{alarm_added}
+use Rattle.question_clauses.specs.Additions.{alarm_added}
 use Rattle.log_order.proofs.AlarmLemmas.{IsNewAlarm-from}
 use Rattle.log_order.specs.Adding.{alarm_refusal, with_alarm}
 use Rattle.replay.specs.QuestionSize.{question_size}

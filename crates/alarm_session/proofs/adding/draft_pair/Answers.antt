@@ -4,7 +4,7 @@ use Rattle.alarm_session.proofs.Keeping.{known_pair, of_coded, paired}
 use Rattle.alarm_session.proofs.Refusing.{accepted, refused_by_size}
 use Rattle.alarm_session.proofs.adding.draft_pair.Goals as goal
 use Rattle.alarm_session.specs.Refusals.{refusal_of_pair}
-use Rattle.log_clauses.specs.Additions.{pair_added}
+use Rattle.question_clauses.specs.Additions.{pair_added}
 use Rattle.log_encode.specs.Drafted.{IsDraftOf}
 use Rattle.replay.specs.QuestionSize.{question_size}
 

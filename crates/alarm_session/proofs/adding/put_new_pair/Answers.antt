@@ -2,7 +2,7 @@ use Rattle.std.proofs.Common.{refl}
 use Rattle.alarm_session.proofs.Joining.{becomes_pair, becomes_with, kept_roomy, kept_with, own_draft, own_fits, stage_roomy}
 use Rattle.alarm_session.proofs.Keeping.{pair_codes, paired}
 use Rattle.alarm_session.proofs.adding.put_new_pair.Goals as goal
-use Rattle.log_clauses.specs.Additions.{pair_added}
+use Rattle.question_clauses.specs.Additions.{pair_added}
 use Rattle.des_base.proofs.Results.{on_err}
 
 pub reserve_draft-requires-clause-drafted : goal.reserve_draft-requires-clause-drafted

@@ -1,10 +1,10 @@
 use Rattle.std.proofs.Common.{◌∙◌, ◌++◌, length, refl, sym, ap, subst, arith}
-use Rattle.log_clauses.specs.Additions.{pair_added}
+use Rattle.question_clauses.specs.Additions.{pair_added}
 use Rattle.log_encode.proofs.CallLemmas.{kept_count}
 use Rattle.log_encode.proofs.CodeLemmas.{grown_is_coded}
 use Rattle.log_encode.proofs.DraftLemmas.{pair_brings}
 use Rattle.log_encode.proofs.log_code.LogCode.draft_before.Goals as goal
-use Rattle.log_clauses.specs.Drafts.{added_list}
+use Rattle.question_clauses.specs.Drafts.{added_list}
 use Rattle.log_encode.specs.CodedLog.{IsCodedLog, read_meanings, code_after}
 use Rattle.log_encode.specs.Drafted.{LogCodeState}
 use Rattle.prop_core.specs.Listings.{IsListed}

@@ -1,5 +1,5 @@
 use Rattle.std.proofs.Common.{◌≡◌, Some, subst, sym}
-use Rattle.log_clauses.specs.LogClauses.{guard_literals}
+use Rattle.question_clauses.specs.LogClauses.{guard_literals}
 use Rattle.log_encode.proofs.CallLemmas.{guards_read}
 use Rattle.log_encode.specs.CodedLog.{read_meanings}
 use Rattle.log_encode.specs.Drafted.{LogCodeState}

@@ -1,6 +1,6 @@
 use Rattle.std.proofs.Common.{◌≡◌, ◌∙◌, ◌+◌, ◌<◌, ◌++◌, length, sym, ap, subst, arith, All}
 use Rattle.des_net.specs.Network.{Net}
-use Rattle.log_clauses.specs.LogNames.{first_meanings}
+use Rattle.question_clauses.specs.LogNames.{first_meanings}
 use Rattle.log_encode.proofs.CallLemmas.{begins, guards_len, first_known, first_kept, first_is_empty, first_appends}
 use Rattle.log_encode.proofs.log_code.LogCode.new.Goals as goal
 use Rattle.log_encode.specs.CodedLog.{read_meanings, empty_code}

@@ -1,5 +1,0 @@
-use Rattle.log_clauses.proofs.Growth.{additions_are_exact}
-use Rattle.log_clauses.proofs.additions_are_exact.Goals as goal
-
-pub returns : goal.returns
-returns c = additions_are_exact

@@ -1,5 +1,0 @@
-use Rattle.log_clauses.proofs.Explained.{assignments_explain}
-use Rattle.log_clauses.proofs.assignments_explain.Goals as goal
-
-pub returns : goal.returns
-returns c = assignments_explain

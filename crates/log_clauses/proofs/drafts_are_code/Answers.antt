@@ -1,5 +1,0 @@
-use Rattle.log_clauses.proofs.Drafts.{drafts_are_code}
-use Rattle.log_clauses.proofs.drafts_are_code.Goals as goal
-
-pub returns : goal.returns
-returns c = drafts_are_code

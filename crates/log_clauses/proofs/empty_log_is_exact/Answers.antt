@@ -1,5 +1,0 @@
-use Rattle.log_clauses.proofs.Growth.{empty_log_is_exact}
-use Rattle.log_clauses.proofs.empty_log_is_exact.Goals as goal
-
-pub returns : goal.returns
-returns c = empty_log_is_exact

@@ -1,5 +1,0 @@
-use Rattle.log_clauses.proofs.Matches.{events_and_alarms}
-use Rattle.log_clauses.proofs.events_and_alarms.Goals as goal
-
-pub returns : goal.returns
-returns c = events_and_alarms

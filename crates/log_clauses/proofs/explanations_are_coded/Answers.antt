@@ -1,5 +1,0 @@
-use Rattle.log_clauses.proofs.Explained.{explanations_are_coded}
-use Rattle.log_clauses.proofs.explanations_are_coded.Goals as goal
-
-pub returns : goal.returns
-returns c = explanations_are_coded

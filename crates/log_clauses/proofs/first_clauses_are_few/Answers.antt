@@ -1,5 +1,0 @@
-use Rattle.log_clauses.proofs.Drafts.{first_clauses_are_few}
-use Rattle.log_clauses.proofs.first_clauses_are_few.Goals as goal
-
-pub returns : goal.returns
-returns c = first_clauses_are_few

@@ -1,5 +1,0 @@
-use Rattle.log_clauses.proofs.NewNames.{first_meanings_are_all}
-use Rattle.log_clauses.proofs.first_meanings_are_all.Goals as goal
-
-pub returns : goal.returns
-returns c = first_meanings_are_all

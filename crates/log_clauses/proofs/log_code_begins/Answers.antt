@@ -1,5 +1,0 @@
-use Rattle.log_clauses.proofs.BesideEvents.{log_code_begins}
-use Rattle.log_clauses.proofs.log_code_begins.Goals as goal
-
-pub returns : goal.returns
-returns c = log_code_begins

@@ -1,5 +1,0 @@
-use Rattle.log_clauses.proofs.Explained.{log_code_is_exact}
-use Rattle.log_clauses.proofs.log_code_is_exact.Goals as goal
-
-pub returns : goal.returns
-returns c = log_code_is_exact

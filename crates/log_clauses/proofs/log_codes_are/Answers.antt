@@ -1,5 +1,0 @@
-use Rattle.log_clauses.proofs.BesideEvents.{log_codes_are}
-use Rattle.log_clauses.proofs.log_codes_are.Goals as goal
-
-pub returns : goal.returns
-returns c = log_codes_are

@@ -1,5 +1,0 @@
-use Rattle.log_clauses.proofs.Numbered.{log_meanings_grow}
-use Rattle.log_clauses.proofs.log_meanings_grow.Goals as goal
-
-pub returns : goal.returns
-returns c = log_meanings_grow

@@ -1,5 +1,0 @@
-use Rattle.log_clauses.proofs.Matches.{matches_are_exact}
-use Rattle.log_clauses.proofs.matches_are_exact.Goals as goal
-
-pub returns : goal.returns
-returns c = matches_are_exact

@@ -1,5 +1,0 @@
-use Rattle.log_clauses.proofs.BesideEvents.{meanings_join_events}
-use Rattle.log_clauses.proofs.meanings_join_events.Goals as goal
-
-pub returns : goal.returns
-returns c = meanings_join_events

@@ -1,5 +1,0 @@
-use Rattle.log_clauses.proofs.Numbered.{ordered_reads}
-use Rattle.log_clauses.proofs.ordered_reads.Goals as goal
-
-pub returns : goal.returns
-returns c = ordered_reads

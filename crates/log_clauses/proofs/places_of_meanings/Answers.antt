@@ -1,5 +1,0 @@
-use Rattle.log_clauses.proofs.Numbered.{places_of_meanings}
-use Rattle.log_clauses.proofs.places_of_meanings.Goals as goal
-
-pub returns : goal.returns
-returns c = places_of_meanings

@@ -1,0 +1,17 @@
+pub mod StepClauses
+pub mod Steps
+pub mod StepLaws
+pub mod StepCodes
+pub mod LaidOut
+pub mod LogClauses
+pub mod LogTruth
+pub mod Decoded
+pub mod Coded
+pub mod LogLaws
+pub mod Additions
+pub mod AdditionLaws
+pub mod LogCodes
+pub mod Drafts
+pub mod LogNames
+pub mod LogCodeLaws
+pub mod BesideEvents
