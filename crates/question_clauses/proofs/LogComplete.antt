@@ -1,5 +1,5 @@
 -- A linearisation has a value for the names of its log.
-use Rattle.std.proofs.Common.{◌≡◌, ◌≢◌, ℕ, zero, suc, ◌+◌, ◌<◌, Bool, true, false, List, [], ◌∷◌, ◌++◌, ◌∙◌, length, refl, sym, ap, subst, arith, Contains, map, flat_map, filter, is_some, not, inl, inr, ◌⊎◌, ◌||◌, ◌&&◌, ◌==◌, take, drop, get_or, slice_get, Some, IsTrue, take_all}
+use Rattle.std.proofs.Common.{◌≡◌, ◌≢◌, ℕ, zero, suc, ◌+◌, ◌<◌, Bool, true, false, List, [], ◌∷◌, ◌++◌, ◌∙◌, length, refl, sym, ap, subst, arith, Contains, map, flat_map, filter, is_some, not, inl, inr, ◌⊎◌, ◌||◌, ◌&&◌, ◌==◌, take, drop, get_or, IsTrue, take_all}
 use Rattle.std.specs.List.{AllByRecursion, AllZip, list_any}
 use Rattle.std.proofs.lemmas.Bool.{eqb-true, eq-eqb, or_right}
 use Rattle.std.proofs.lemmas.List.{length-map}

@@ -10,7 +10,7 @@ use Rattle.des_base.specs.Lists.{EachPair, numbers_below}
 use Rattle.des_net.specs.Network.{Net, label_of, observable_events}
 use Rattle.question_clauses.proofs.Drafts.{flat_length, sum_more, same_count, taken_count, longer, doubtful_more, taken_is, is_taken}
 use Rattle.question_clauses.proofs.Growth.{length_split, length_end, grown, number_split, match_split, taken}
-use Rattle.question_clauses.proofs.Lists.{all_at, from_numbers, in_numbers, pairs_flat, pairs_map}
+use Rattle.question_clauses.proofs.Lists.{from_numbers, in_numbers, pairs_flat, pairs_map}
 use Rattle.question_clauses.proofs.LogRules.{matching_alarm, is_shown, shown_event}
 use Rattle.question_clauses.proofs.Stay.{with_alarm, with_pair, all_range, matching_same, doubtful_same, doubtful_new}
 use Rattle.question_clauses.proofs.Explained.{doubtful_below}
