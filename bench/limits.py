@@ -26,9 +26,9 @@ their counts event by event, the labels of an alarm as a set, the advice of dead
 | `diagnose`, the largest model, 0 steps | 0.38 s | 0.14 s | 0.15 s |
 | `verdicts`, 30, 100, 300 fault events, beside `diagnose` | 3.7, 29 times, - | 1.9, 3.0, 5.1 | 5 |
 | `cheapest`, 30, 100, 300 fault events, beside `diagnose` (memory) | 14 (2.8), 6.3 (9.1), 3.5 (11.6) | 15 (2.5), 9.2 (8.4), 4.6 (11.2) | 4 (1.5) |
-| `twin`, 40 devices, 200 steps, AFTER 100 | 16.9 bytes a literal | 8.7 | 5.2 |
+| `twin`, 40 devices, 200 steps, AFTER 100, bytes for each literal, which takes 8 itself | 16.9 | 8.7 | 10.4 |
 
-`check` stays above the C checker on proofs: half of its instructions read numbers, and two fifths follow hints, and it holds the whole proof, two blocks a step, where C keeps no hints. A literal takes 8 bytes, so a twin question's clauses can't take 5.2.
+`check` stays above the C checker on proofs: half of its instructions read numbers, and two fifths follow hints, and it holds the whole proof, two blocks a step, where C keeps no hints.
 
 `cheapest` can't get there while it writes its whole scale first, as its contract says: 1,001 variables and up to 2,002 clauses for each fault event and step, so 1.8 million variables and up to 3.6 million clauses for 300 fault events in 6 steps, each of which a question with an answer decides by itself. A third of what is left of the largest model (of its instructions) are
 the lists of touching events of `step_encode`, which asks each component for each event.
@@ -188,7 +188,7 @@ def twin_rows(program, folder):
         model += [f"event jam{u} fault : u{u}.jam"] + [f"event e{u}-{e} alarm L{u}-{e} : u{u}.a{e}" for e in range(9)]
     path, literals = text(f"{folder}/m", model), 200 * 100 * 360
     (seconds, memory), (_, empty) = least([program, "twin", path, "jam0", "200", "100", BUDGET], [program, "twin", path, "jam0", "200", "1", BUDGET])
-    print(f"| `twin`, 200 steps, AFTER 100 | {seconds:.3f} s, {memory:.0f} MiB | AFTER 1: {empty:.0f} MiB | {(memory - empty) * 2**20 / literals:.1f} bytes a literal | 5.2 |", flush=True)
+    print(f"| `twin`, 200 steps, AFTER 100 | {seconds:.3f} s, {memory:.0f} MiB | AFTER 1: {empty:.0f} MiB | {(memory - empty) * 2**20 / literals:.1f} bytes a literal, which takes 8 itself | 10.4 |", flush=True)
 
 
 ROWS = {"check": check_rows, "trace": trace_rows, "ask": ask_rows, "labels": label_rows, "model": model_rows, "verdicts": verdict_rows, "cheapest": cheapest_rows, "twin": twin_rows}
