@@ -1,5 +1,5 @@
 -- What is found with some costs is found with any that fault events have alike.
-use Rattle.std.proofs.Common.{◌≡◌, ◌∙◌, ℕ, zero, suc, ◌+◌, ◌<◌, ◌≤◌, ◌↔◌, Bool, true, false, List, [], ◌∷◌, ◌++◌, map, length, filter, Option, None, Some, IfSome, refl, sym, ap, subst, arith, slice_get}
+use Rattle.std.proofs.Common.{◌≡◌, ◌∙◌, ℕ, zero, suc, ◌+◌, ◌<◌, ◌≤◌, ◌↔◌, Bool, true, false, List, [], ◌∷◌, ◌++◌, map, length, filter, Option, None, Some, IfSome, refl, sym, ap, subst, arith}
 use Rattle.std.specs.Prelude.{flat_map, slice_index_or, if◌then◌else◌}
 use Rattle.std.proofs.lemmas.List.Sums.{sum_by-cons}
 use Rattle.card_counter.specs.CounterState.{CounterState}
@@ -23,7 +23,7 @@ use Rattle.run_decode.proofs.Tells.{same_property_told}
 use Rattle.step_encode.specs.Coded.{CodedSteps, code_grid}
 use Rattle.weight_counter.specs.declared.scale.Scale.{Scale}
 use Rattle.weight_counter.specs.declared.weighted.Weighted.{Weighted}
-use Rattle.cost_least.specs.Answers.{PoseCostQuestion, CostAsked, HasConflictOf, HasCostConflict, IsAboveFinals, IsCheapFound, IsCostAnswered, IsCostEvidence, IsCostLeftOpen, IsKnownAbove, IsPriced, IsRunAt, Needs}
+use Rattle.cost_least.specs.Answers.{PoseCostQuestion, CostAsked, HasConflictOf, HasCostConflict, IsAboveFinals, IsCheapFound, IsCostAnswered, IsCostEvidence, IsCostLeftOpen, IsKnownAbove, IsRunAt, Needs}
 use Rattle.cost_least.specs.Drawn.{IsCostClause, cost_literals}
 use Rattle.cost_least.specs.Costs.{IsCheapest, IsDear, IsExplainedAt, event_cost, total, word_cost}
 use Rattle.cost_least.specs.Pricing.{ExplainsAt, named_weights}

@@ -1,13 +1,13 @@
 -- A table of costs, one price further.
-use Rattle.std.proofs.Common.{◌≡◌, ◌≢◌, ◌∙◌, ◌⊎◌, inl, inr, ℕ, ◌<◌, ◌==◌, Bool, true, false, List, [], ◌∷◌, ◌++◌, length, Option, None, Some, refl, sym, ap, subst, arith, option_map, find, cond, get_or, set, unwrap_or}
+use Rattle.std.proofs.Common.{◌≡◌, ◌≢◌, ◌∙◌, ◌⊎◌, inl, inr, ℕ, ◌<◌, ◌==◌, Bool, true, false, List, [], ◌∷◌, ◌++◌, length, Option, None, Some, refl, sym, ap, subst, option_map, find, cond, get_or, set}
 use Rattle.std.specs.Option.{option_or}
 use Rattle.std.proofs.lemmas.Bool.{cases_eq}
 use Rattle.std.proofs.lemmas.Bool.Decides.{eqb_tells}
-use Rattle.std.proofs.lemmas.List.{length-set, get_or-set_same, get_or-set_other}
+use Rattle.std.proofs.lemmas.List.{get_or-set_same, get_or-set_other}
 use Rattle.std.proofs.lemmas.List.Folds.{find-append}
 use Rattle.event_costs.specs.declared.table.Price.{Price}
 use Rattle.event_costs.specs.CostText.{given_to}
-use Rattle.event_costs.specs.Prices.{given_at, cost_at}
+use Rattle.event_costs.specs.Prices.{given_at}
 use Rattle.event_costs.specs.Reading.{IsPriceTable}
 
 either : (o p : Option Price) → option_map (λ (x : Price). x.cost) (option_or o p) ≡ option_or (option_map (λ (x : Price). x.cost) o) (option_map (λ (x : Price). x.cost) p)

@@ -1,6 +1,6 @@
 -- The text of costs: what it gives to each fault event, and its first fault.
 use Rattle.std.specs.Prelude.{◌≡◌, ⊤, ℕ, Bool, false, not, List, [], ◌∷◌, ◌++◌, filter_map, find, length, option_map, option_and_then, Option, Some, None, bytes_eq, codes, if◌then◌else◌, nat_le, ◌==◌, is_none, is_some, unwrap_or}
-use Rattle.std.specs.Option.{option_or, option_to_list}
+use Rattle.std.specs.Option.{option_to_list}
 use Rattle.des_base.specs.Names.{is_name_text, place_of}
 use Rattle.des_base.specs.Numbers.{number_up_to}
 use Rattle.des_base.specs.CountedLines.{NumberedLine, counted_lines, tokens_of}

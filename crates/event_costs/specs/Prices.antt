@@ -1,5 +1,5 @@
 -- What events cost, as numbers in a table.
-use Rattle.std.specs.Prelude.{ℕ, ◌≤◌, ⊤, List, Option, None, Some, unwrap_or, slice_index_or}
+use Rattle.std.specs.Prelude.{ℕ, ◌≤◌, List, Option, None, unwrap_or, slice_index_or}
 use Rattle.std.specs.Prelude.{IfSome}
 use Rattle.event_costs.specs.declared.TheConstants.{MOST_COST}
 

@@ -1,5 +1,5 @@
 -- What events cost, as a stored closure answers it.
-use Rattle.std.specs.Prelude.{◌≡◌, ℕ, ◌<◌, ◌≤◌, true, length}
+use Rattle.std.specs.Prelude.{◌≡◌, ℕ, ◌<◌, true, length}
 use Rattle.des_net.specs.Network.{Net, is_fault}
 use Rattle.event_costs.specs.Prices.{IsPrice}
 

@@ -8,7 +8,7 @@ use Rattle.fault_verdicts.specs.Riders.{AreAskedOf, IsBuiltWith, IsOfFault, Ride
 use Rattle.least_faults.proofs.ColumnsBuilt.{question_columns}
 use Rattle.least_faults.specs.Columns.{columns_built}
 use Rattle.least_faults.specs.Growing.{KeepsQuestion}
-use Rattle.least_faults.specs.Parts.{BelongTo, IsBuilt, built_of}
+use Rattle.least_faults.specs.Parts.{BelongTo, IsBuilt}
 use Rattle.least_faults.specs.declared.parts.Parts.{Parts}
 use Rattle.log_encode.specs.Drafted.{LogCodeState}
 use Rattle.log_order.specs.Log.{Log}

@@ -1,6 +1,6 @@
 -- A generated network is as one that was read from a text: its actions stand in the order in which they are first taken, and its labels are names.
 use Rattle.std.proofs.Common.{◌≡◌, ◌<◌, ◌≤◌, ◌+◌, ℕ, true, List, [], ◌∷◌, map, refl, arith, subst, sym}
-use Rattle.std.specs.Prelude.{All, IsTrue, codes, decimal, flat_map}
+use Rattle.std.specs.Prelude.{All, IsTrue, codes, flat_map}
 use Rattle.std.specs.List.{AllByRecursion}
 use Rattle.std.proofs.lemmas.List.Elements.{All-nil, All-cons, All-append}
 use Rattle.des_base.proofs.BoolLemmas.{join}

@@ -1,5 +1,5 @@
 -- The log's code is of this network and of as many alarms.
-use Rattle.std.proofs.Common.{◌∙◌, length, map, ap}
+use Rattle.std.proofs.Common.{◌∙◌, length, ap}
 use Rattle.std.proofs.lemmas.List.{length-map}
 use Rattle.des_net.specs.Network.{Net}
 use Rattle.least_faults.specs.Trying.{IsCodeFor}

@@ -1,5 +1,5 @@
 -- The fields of a record, by their places.
-use Rattle.std.proofs.Common.{◌≡◌, ◌+◌, ◌≤◌, ℕ, zero, suc, true, cond, ◌&&◌, List, [], ◌∷◌, length, drop, Some, None, refl, arith, ap, sym, ◌∙◌}
+use Rattle.std.proofs.Common.{◌≡◌, ◌+◌, ℕ, zero, suc, true, cond, ◌&&◌, List, [], ◌∷◌, drop, Some, None, refl, arith, ap, sym, ◌∙◌}
 use Rattle.csv.specs.Records.{field_at}
 use Rattle.log_csv.specs.Records.{are_empty, is_empty_field, record_keyword, record_by_word, record_with, two_fields}
 

@@ -1,7 +1,7 @@
 -- The labels of a field, one after another.
-use Rattle.std.proofs.Common.{◌≡◌, ◌-◌, ◌≤◌, ℕ, suc, Bool, true, false, ◌&&◌, List, [], ◌∷◌, ◌++◌, length, take, drop, refl, arith, ap, sym, ◌∙◌, sub-one}
+use Rattle.std.proofs.Common.{◌≡◌, ◌-◌, ◌≤◌, ℕ, suc, Bool, List, [], ◌∷◌, length, take, drop, refl, arith, ap, sym, ◌∙◌, sub-one}
 use Rattle.std.specs.Prelude.{◌==◌}
-use Rattle.std.specs.List.{list_all, position_or_len, slice_split}
+use Rattle.std.specs.List.{position_or_len, slice_split}
 use Rattle.des_base.proofs.PieceLemmas.{after_cut, slice_split-piece}
 
 abbrev pub is_bar : ℕ → Bool

@@ -2,7 +2,6 @@
 use Rattle.std.proofs.Common.{◌≡◌, ◌∙◌, ℕ, zero, suc, ◌<◌, List, [], ◌∷◌, ◌++◌, length, Some, refl, arith, ap, sym}
 use Rattle.std.specs.Prelude.{option_map, slice_get}
 use Rattle.log_order.specs.Log.{Log, an_alarm}
-use Rattle.log_order.specs.Adding.{names_of}
 use Rattle.log_order.specs.Meanings.{AlarmMeaning, alarms_with}
 use Rattle.log_order.specs.View.{log_view, IsAlarmLog}
 use Rattle.log_order.specs.declared.alarm_log.AlarmLog.TheInside.{Inside}

@@ -1,9 +1,9 @@
 -- A comment before a printed proof changes nothing but the numbers of the lines, and what a proof comes to doesn't hang on these.
-use Rattle.std.proofs.Common.{◌≡◌, ◌∙◌, ℕ, ◌+◌, Bool, true, false, cond, List, [], ◌∷◌, ◌++◌, filter, map, Option, None, Some, refl, sym, ap, subst}
+use Rattle.std.proofs.Common.{◌≡◌, ◌∙◌, ℕ, ◌+◌, Bool, true, false, cond, List, [], ◌∷◌, ◌++◌, filter, map, Option, None, Some, refl, sym, ap}
 use Rattle.std.specs.List.{list_all}
 use Rattle.des_base.proofs.PrintedLines.{line_byte, text_lines-line}
 use Rattle.des_base.specs.CountedLines.{NumberedLine, counted_from, is_counted, numbered, numbered_from, text_lines, tokens_of}
-use Rattle.proof_ledger.specs.Checking.{Checking, answered, holds, after_add, after_step, check_from, check_proof, with_clause, without}
+use Rattle.proof_ledger.specs.Checking.{Checking, answered, holds, after_add, check_from, check_proof, with_clause, without}
 use Rattle.proof_ledger.specs.declared.checker.Checked.{Checked}
 use Rattle.proof_ledger.specs.declared.checker.Checked.TheVariants.{Verified, Rejected}
 use Rattle.proof_ledger.specs.declared.checker.ProofStep.{ProofStep}

@@ -19,7 +19,6 @@ use Rattle.run_decode.proofs.Decided.{refuted_by}
 use Rattle.run_decode.proofs.Questions.{clauses_true, made_true, question_gives_explanations}
 use Rattle.run_decode.proofs.Truths.{explained_has_truth, question_has_truth}
 use Rattle.run_decode.specs.Drawn.{assumption_literals}
-use Rattle.run_decode.specs.Faithful.{IsWithin, MakesTrue, IsFaithful}
 use Rattle.run_decode.specs.Question.{Asks}
 use Rattle.run_decode.specs.Tells.{Property, Tells, ExplainsWithin, FaithfulTells, Rides, SaysOfWords, AreBoth}
 use Rattle.replay.specs.Explanation.{Entry}

@@ -1,5 +1,5 @@
 -- The clauses of a book as they are attached, one after another.
-use Rattle.std.proofs.Common.{◌≡◌, ◌∙◌, ℕ, ◌+◌, ◌-◌, ◌<◌, ◌≤◌, Bool, false, ◌++◌, ◌∷◌, [], List, ap, sym, length, take, drop, zero, suc, get_or, arith, subst, inl, ⊎_elim, eqb}
+use Rattle.std.proofs.Common.{◌≡◌, ◌∙◌, ℕ, ◌+◌, ◌-◌, ◌<◌, ◌≤◌, false, ◌++◌, ◌∷◌, [], List, ap, sym, length, take, drop, zero, suc, get_or, arith, subst, inl, ⊎_elim, eqb}
 use Rattle.std.specs.Prelude.{Option, Some, ◌⊎◌, Contains, IfSome}
 use Rattle.std.specs.List.{AllByRecursion}
 use Rattle.std.proofs.lemmas.Grind.{common_steps}
@@ -10,10 +10,9 @@ use Rattle.prop_core.specs.Clauses.{Clause, HasValues}
 use Rattle.prop_core.specs.Derivation.{clause_numbered}
 use Rattle.proof_ledger.specs.Book.{BookEntry, axiomatic, clause_of, clauses_of}
 use Rattle.sat_prop.specs.TrailState.{TrailState}
-use Rattle.sat_prop.specs.Levels.{level_of}
 use Rattle.sat_prop.specs.Changes.{IsFront, with_attached_clause}
 use Rattle.sat_prop.proofs.Fronts.{split_last, contains_more}
-use Rattle.sat_solve.specs.Solving.{SolverState, AreAtRest, HasAttached}
+use Rattle.sat_solve.specs.Solving.{SolverState, HasAttached}
 use Rattle.sat_solve.proofs.Learning.{contains_last}
 use Rattle.sat_solve.proofs.Standing.{each_below}
 use Rattle.prop_core.proofs.Literals.{wider}

@@ -1,5 +1,5 @@
 -- The clauses of a scale are few and short, and over its variables and those of its inputs.
-use Rattle.std.proofs.Common.{◌≡◌, ◌∙◌, ℕ, zero, suc, ◌+◌, ◌-◌, ◌*◌, ◌<◌, ◌≤◌, min, List, [], ◌∷◌, ◌++◌, length, map, Some, refl, sym, ap, subst, arith, sum_by, All, slice_get, Contains, length-append}
+use Rattle.std.proofs.Common.{◌≡◌, ◌∙◌, ℕ, zero, suc, ◌+◌, ◌-◌, ◌*◌, ◌<◌, ◌≤◌, min, List, [], ◌∷◌, ◌++◌, length, map, Some, refl, ap, subst, arith, sum_by, slice_get, length-append}
 use Rattle.std.specs.List.{AllByRecursion}
 use Rattle.std.proofs.Math.Nat.{suc-mul}
 use Rattle.std.proofs.lemmas.List.{length-map}
@@ -16,7 +16,7 @@ use Rattle.weight_counter.proofs.Weights.{within}
 use Rattle.weight_counter.proofs.Written.{are_weight_clauses}
 use Rattle.weight_counter.specs.declared.scale.Scale.{Scale}
 use Rattle.weight_counter.specs.declared.weighted.Weighted.{Weighted}
-use Rattle.weight_counter.specs.Scales.{place_variable, kept_clause, alone_clause, raised_clause, kept_before, alone_at, raised_at, weight_clauses, clauses_from, scale_clauses, ScalesAreSmall, IsSmall}
+use Rattle.weight_counter.specs.Scales.{place_variable, kept_clause, alone_clause, raised_clause, kept_before, alone_at, raised_at, weight_clauses, clauses_from, scale_clauses, ScalesAreSmall}
 use Rattle.weight_counter.specs.Weighing.{WeightClause, weighs_on, weighs_alone, weighs_up, weight_clause, IsWeightClause}
 
 -- ---- few and short

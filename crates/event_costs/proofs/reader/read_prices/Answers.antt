@@ -1,4 +1,4 @@
-use Rattle.std.proofs.Common.{List, Option, subst, sym}
+use Rattle.std.proofs.Common.{List, subst, sym}
 use Rattle.des_base.specs.CountedLines.{NumberedLine, numbered}
 use Rattle.event_costs.proofs.ReadLemmas.{IsReadTo, read_more, read_fault}
 use Rattle.event_costs.proofs.reader.read_prices.Goals as goal
