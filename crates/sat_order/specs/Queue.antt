@@ -1,10 +1,6 @@
--- The waiting variables in a heap, each once, as its rank and its number; the number counts downwards.
-use Rattle.std.specs.Prelude.{◌≡◌, ℕ, ◌<◌, ◌==◌, Bool, List, length, count_by, if◌then◌else◌}
-use Rattle.std.specs.List.{All}
-use Rattle.std.specs.declared.cmp.Ordering.{Ordering}
-use Rattle.std.specs.Ordering.{ordering_then, nat_cmp}
-use Rattle.std.specs.declared.cmp.Reverse.{Reverse}
-use Rattle.std.specs.BinaryHeap.{IsHeap}
+-- Variables in runs of equal rank, one run after another, each with a place before which none of its variables waits.
+use Rattle.std.specs.Prelude.{◌≡◌, ℕ, zero, suc, ◌+◌, ◌-◌, ◌<◌, ◌≤◌, Bool, false, List, [], ◌∷◌, Option, Some, None, length, min, nat_lt, ◌==◌, if◌then◌else◌}
+use Rattle.sat_order.specs.declared.queue.Run.{Run}
 use Rattle.sat_order.specs.Waiting.{rank_of, waits}
 
 -- the ranks of the variables so far, whether each waits, and for how many more there is room
@@ -13,23 +9,54 @@ pub record QueueState : Type 0 where
   pub waiting : List Bool
   pub spare : ℕ
 
--- a rank and the variable that has it, which counts downwards
-abbrev pub Candidate : Type 0
-Candidate = ℕ × Reverse ℕ
+-- the variables from the first up to the end of a run have its rank, and none of them waits before the next
+pub record IsRun (ranks : List ℕ) (waiting : List Bool) (first : ℕ) (run : Run) : Type 0 where
+  pub from : first ≤ run.next
+  pub upto : run.next ≤ run.end
+  pub ranked : (var : ℕ) → first ≤ var → var < run.end → rank_of ranks var ≡ run.rank
+  pub passed : (var : ℕ) → first ≤ var → var < run.next → waits waiting var ≡ false
 
--- the order of candidates: by rank, and of equal ranks the smaller variable counts as greater
-abbrev pub candidate_order : Candidate → Candidate → Ordering
-candidate_order a b = ordering_then (nat_cmp a.0 b.0) (nat_cmp b.1.0 a.1.0)
+-- runs, one after another, have the variables from the first on up to the last
+abbrev pub AreRuns : List ℕ → List Bool → ℕ → ℕ → List Run → Type 0
+AreRuns ranks waiting first last [] = first ≡ last
+AreRuns ranks waiting first last (run ∷ runs) = IsRun ranks waiting first run × AreRuns ranks waiting run.end last runs
 
--- a candidate is a variable with its rank
-pub record IsCandidate (ranks : List ℕ) (candidate : Candidate) : Type 0 where
-  pub known : candidate.1.0 < length ranks
-  pub ranked : candidate.0 ≡ rank_of ranks candidate.1.0
-
--- the heap has the waiting variables, each once
-pub record IsQueue (ranks : List ℕ) (waiting : List Bool) (candidates : List Candidate) : Type 0 where
+-- runs have all variables
+pub record IsQueue (ranks : List ℕ) (waiting : List Bool) (runs : List Run) : Type 0 where
   pub same : length waiting ≡ length ranks
-  pub ordered : IsHeap candidate_order candidates
-  pub ranked : All (IsCandidate ranks) candidates
-  pub once : (var : ℕ) → count_by (λ (c : Candidate). c.1.0 == var) candidates ≡ (if waits waiting var then 1 else 0)
-  pub count : length candidates ≡ count_by (λ b. b) waiting
+  pub all : AreRuns ranks waiting 0 (length ranks) runs
+
+-- runs with one more variable behind the others, which has a run of its own if the last run has another rank
+abbrev pub longer : List Run → ℕ → ℕ → List Run
+longer [] rank var = record { rank = rank; next = var; end = var + 1 } ∷ []
+longer (run ∷ []) rank var = if run.rank == rank then record run { end = var + 1 } ∷ [] else run ∷ record { rank = rank; next = var; end = var + 1 } ∷ []
+longer (run ∷ other ∷ runs) rank var = run ∷ longer (other ∷ runs) rank var
+
+-- the place of the first run that ends behind a variable
+abbrev pub run_place : ℕ → List Run → ℕ
+run_place var [] = 0
+run_place var (run ∷ runs) = if nat_lt var run.end then 0 else suc (run_place var runs)
+
+-- the first run that ends behind a variable goes on from there at the latest
+abbrev pub lowered : ℕ → List Run → List Run
+lowered var [] = []
+lowered var (run ∷ runs) = if nat_lt var run.end then record run { next = min run.next var } ∷ runs else run ∷ lowered var runs
+
+-- the first of so many variables that waits, or the one behind them
+abbrev pub first_waiting : List Bool → ℕ → ℕ → ℕ
+first_waiting waiting next zero = next
+first_waiting waiting next (suc count) = if waits waiting next then next else first_waiting waiting (suc next) count
+
+-- a run at the first of its variables that waits
+abbrev pub moved_on : List Bool → Run → Run
+moved_on waiting run = record run { next = first_waiting waiting run.next (run.end - run.next) }
+
+-- a run if it has a variable that waits and a greater rank than the best of those before it, which is kept otherwise
+abbrev pub better_run : Option Run → Run → Option Run
+better_run None run = if nat_lt run.next run.end then Some run else None
+better_run (Some best) run = if nat_lt run.next run.end then (if nat_lt best.rank run.rank then Some run else Some best) else Some best
+
+-- the best of some runs, and of one that may be known before them
+abbrev pub best_run : Option Run → List Run → Option Run
+best_run best [] = best
+best_run best (run ∷ runs) = best_run (better_run best run) runs

@@ -1,26 +1,33 @@
-// The heap of the variables that wait.
-ghost use Rattle.std.specs.Prelude.{◌≡◌, ◌<◌, ◌≤◌, ◌+◌, ◌++◌, ◌∷◌, [], true, false, length, max, slice_set, OnOk, OnErr, OnSome, IfSome, IfNone};
-ghost use Rattle.sat_order.specs.Waiting.{IsNext, NoneWaits};
+// Variables in runs of equal rank, each with a place before which none waits.
+ghost use Rattle.std.specs.Prelude.{◌≡◌, ◌<◌, ◌≤◌, ◌+◌, ◌-◌, ◌++◌, ◌∷◌, [], None, true, false, length, map, max, slice_set, vec_len, vec_capacity, OnOk, OnErr, IfSome, IfNone};
+ghost use Rattle.des_base.specs.declared.TheConstants.{VAR_LIMIT};
+ghost use Rattle.sat_order.specs.Waiting.{IsNext, NoneWaits, waits};
+ghost use Rattle.sat_order.specs.Queue.{best_run, better_run, first_waiting, longer, lowered, moved_on, run_place};
 
-use des_base::Memory;
+use des_base::{Memory, VAR_LIMIT};
 use std::alloc::Global;
-use std::cmp::Reverse;
-use std::collections::BinaryHeap;
 use std::marker::Model;
 
-// Variables with their ranks, of which those that wait stand in a heap.
+// Variables of equal rank that were added one after another, from the end of the run before it up to its own. None of them waits
+// before `next`.
+#[derive(Clone, Copy)]
+pub struct Run {
+    pub rank: u64,
+    pub next: u32,
+    pub end: u32,
+}
+
+// Variables with their ranks, some of which wait.
 #[derive(Drop)]
 pub struct Queue {
     ranks: Vec<u64>,
     waiting: Vec<bool>,
-    candidates: BinaryHeap<(u64, Reverse<u32>)>,
+    runs: Vec<Run>,
     spare: usize,
 }
 
 impl Model for Queue {
-    ghost use Rattle.std.specs.Prelude.{◌+◌, ◌≤◌, ◌^◌, length, vec_len, vec_capacity};
-    ghost use Rattle.std.specs.BinaryHeap.{heap_items, heap_len, heap_capacity};
-    ghost use Rattle.des_base.specs.declared.TheConstants.{VAR_LIMIT};
+    ghost use Rattle.std.specs.Prelude.{◌+◌, ◌≤◌, length, vec_len, vec_capacity};
     ghost use Rattle.sat_order.specs.Queue.{QueueState, IsQueue};
 
     ghost Value = { QueueState };
@@ -28,10 +35,10 @@ impl Model for Queue {
     ghost view = { λ a. record { ranks = a.ranks.items; waiting = a.waiting.items; spare = a.spare } };
 
     ghost invariant = { λ a. record {
-      queue : IsQueue a.ranks.items a.waiting.items (heap_items a.candidates);
+      queue : IsQueue a.ranks.items a.waiting.items a.runs.items;
       ranks : vec_len a.ranks + a.spare ≤ vec_capacity a.ranks;
       waiting : vec_len a.waiting + a.spare ≤ vec_capacity a.waiting;
-      candidates : vec_len a.waiting + a.spare ≤ heap_capacity a.candidates;
+      runs : vec_len a.runs + a.spare ≤ vec_capacity a.runs;
     } };
 }
 
@@ -42,7 +49,7 @@ impl Queue {
         Queue {
             ranks: Vec::new(alloc),
             waiting: Vec::new(alloc),
-            candidates: BinaryHeap::new(alloc),
+            runs: Vec::new(alloc),
             spare: 0,
         }
     }
@@ -69,8 +76,7 @@ impl Queue {
         let room = self.spare.max(vars);
         self.ranks.reserve(room)?;
         self.waiting.reserve(room)?;
-        let absent = self.waiting.len() - self.candidates.len();
-        self.candidates.reserve(absent + room)?;
+        self.runs.reserve(room)?;
         self.spare = room;
         Ok(())
     }
@@ -78,7 +84,7 @@ impl Queue {
     // Adds the next variable, which waits.
     pub fn add(&mut self, rank: u64)
         requires room { 1 ≤ self.old.spare }
-        requires limit { length self.old.ranks < 4294967296 }
+        requires limit { length self.old.ranks < VAR_LIMIT }
         ensures ranks { self.new.ranks ≡ self.old.ranks ++ rank ∷ [] }
         ensures waiting { self.new.waiting ≡ self.old.waiting ++ true ∷ [] }
         ensures spare { self.new.spare + 1 ≡ self.old.spare }
@@ -86,7 +92,7 @@ impl Queue {
         let var = self.ranks.len() as u32;
         self.ranks.push(rank).unwrap();
         self.waiting.push(true).unwrap();
-        self.candidates.push(candidate(rank, var)).unwrap();
+        lengthen(&mut self.runs, rank, var);
         self.spare -= 1;
     }
 
@@ -99,8 +105,7 @@ impl Queue {
             return;
         }
         self.waiting[var as usize] = true;
-        let rank = self.ranks[var as usize];
-        self.candidates.push(candidate(rank, var)).unwrap();
+        lower(&mut self.runs, var);
     }
 
     // Takes the variable that comes first of those that wait.
@@ -110,16 +115,117 @@ impl Queue {
         ensures none { IfNone result (NoneWaits self.old.waiting) }
         ensures same { IfNone result (self.new ≡ self.old) }
     {
-        let (_, Reverse(var)) = self.candidates.pop()?;
-        self.waiting[var as usize] = false;
-        Some(var)
+        move_on(&mut self.runs, &self.waiting);
+        let run = best(&self.runs)?;
+        self.waiting[run.next as usize] = false;
+        Some(run.next)
     }
 }
 
-// A variable with its rank, so that the greatest is the one that comes first.
-fn candidate(rank: u64, var: u32) -> (u64, Reverse<u32>)
-    ensures rank { result.0 ≡ rank }
-    ensures var { result.1.0 ≡ var }
+// Adds a variable to the last run if that has its rank, and otherwise to a new one.
+fn lengthen(runs: &mut Vec<Run>, rank: u64, var: u32)
+    requires room { vec_len runs.old + 1 ≤ vec_capacity runs.old }
+    requires limit { var < VAR_LIMIT }
+    ensures runs { runs.new.items ≡ longer runs.old.items rank var }
+    ensures count { vec_len runs.new ≤ vec_len runs.old + 1 }
+    ensures capacity { vec_capacity runs.old ≤ vec_capacity runs.new }
 {
-    (rank, Reverse(var))
+    let count = runs.len();
+    if count > 0 && runs[count - 1].rank == rank {
+        runs[count - 1].end = var + 1;
+    } else {
+        runs.push(Run {
+            rank,
+            next: var,
+            end: var + 1,
+        })
+        .unwrap();
+    }
+}
+
+// Lets the run of a variable go on from there at the latest.
+fn lower(runs: &mut [Run], var: u32)
+    requires { run_place var runs.old < length runs.old }
+    ensures { runs.new ≡ lowered var runs.old }
+{
+    let place = place_of(runs, var);
+    let next = runs[place].next.min(var);
+    runs[place].next = next;
+}
+
+// The place of the run that has a variable.
+fn place_of(runs: &[Run], var: u32) -> usize
+    requires { run_place var runs.now < length runs.now }
+    ensures { result ≡ run_place var runs.now }
+{
+    let mut place = 0_usize;
+    'on: while runs[place].end <= var {
+        place += 1;
+    }
+    place
+}
+
+// Moves each run on to the first of its variables that waits.
+fn move_on(runs: &mut [Run], waiting: &[bool])
+    ensures { runs.new ≡ map (moved_on waiting.now) runs.old }
+{
+    for run in runs.iter_mut() {
+        *run = moved_on(*run, waiting);
+    }
+}
+
+// A run at the first of its variables that waits.
+fn moved_on(run: Run, waiting: &[bool]) -> Run
+    ensures { result ≡ moved_on waiting.now run }
+{
+    Run {
+        rank: run.rank,
+        next: first_waiting(waiting, run.next, run.end),
+        end: run.end,
+    }
+}
+
+// The first variable that waits, from `next` on and before the end, or the end.
+fn first_waiting(waiting: &[bool], next: u32, end: u32) -> u32
+    ensures { result ≡ first_waiting waiting.now next (end - next) }
+{
+    let mut var = next;
+    'on: while var < end && !waits(waiting, var) {
+        var += 1;
+    }
+    var
+}
+
+// Whether a variable waits.
+fn waits(waiting: &[bool], var: u32) -> bool
+    ensures { result ≡ waits waiting.now var }
+{
+    match waiting.get(var as usize) {
+        Some(waits) => *waits,
+        None => false,
+    }
+}
+
+// Of the runs in which a variable waits, the first with the greatest rank.
+fn best(runs: &[Run]) -> Option<Run>
+    ensures { result ≡ best_run None runs.now }
+{
+    let mut best: Option<Run> = None;
+    for run in runs {
+        best = better(best, *run);
+    }
+    best
+}
+
+// A run if a variable waits in it, and it has a greater rank than the best of those before it, which is kept otherwise.
+fn better(best: Option<Run>, run: Run) -> Option<Run>
+    ensures { result ≡ better_run best run }
+{
+    if run.next >= run.end {
+        return best;
+    }
+    match best {
+        Some(kept) if run.rank <= kept.rank => best,
+        _ => Some(run),
+    }
 }

@@ -1,8 +1,8 @@
-use Rattle.std.proofs.Common.{arith, ◌≡◌, ◌+◌, ◌≤◌, sym, subst, ◌++◌, ◌∷◌, [], true}
+use Rattle.std.proofs.Common.{◌≡◌, ◌+◌, ◌≤◌, ◌++◌, ◌∷◌, [], true, arith, sym, subst}
 use Rattle.std.specs.Prelude.{vec_len}
 use Rattle.std.proofs.lemmas.Grind.{common_steps}
 use Rattle.sat_order.specs.Queue.{QueueState}
-use Rattle.sat_order.proofs.Queues.{IsQueue-add, given_ok, with_candidate}
+use Rattle.sat_order.proofs.Queues.{IsQueue-add}
 use Rattle.sat_order.proofs.queue.Queue.add.Goals as goal
 
 pub invariant_of-self : goal.invariant_of-self
@@ -13,9 +13,8 @@ invariant_of-self c =
     let wide : vec_len c.push-2.new.self ≡ vec_len c.self.inside.waiting + 1 = let a = c.push-2.ensures.len in let o = c.unwrap-2.ensures in grind (arith, common_steps) in
     let some : 1 ≤ c.self.inside.spare = subst (λ (s : QueueState). 1 ≤ s.spare) (sym c.self.view_is) c.requires.room in
     record {
-      queue = rw (ranks, waiting) (IsQueue-add c.self.inside.ranks.items c.self.inside.waiting.items _ _ c.args.rank c.len-var.result c.self.invariant.queue (let e = c.len-var.ensures in grind (arith, common_steps))
-          (with_candidate c.candidate.result c.args.rank c.len-var.result _ _ c.candidate.ensures.rank c.candidate.ensures.var (given_ok c.push-3.result c.unwrap-3.result _ c.unwrap-3.ensures c.push-3.ensures.permutation)) (given_ok c.push-3.result c.unwrap-3.result _ c.unwrap-3.ensures c.push-3.ensures.heap_order c.self.invariant.queue.ordered));
+      queue = rw (ranks, waiting, c.lengthen.ensures.runs) (IsQueue-add c.self.inside.ranks.items c.self.inside.waiting.items c.self.inside.runs.items c.args.rank c.len-var.result c.self.invariant.queue (let e = c.len-var.ensures in grind (arith, common_steps)));
       ranks = let a = c.self.invariant.ranks in let b = c.push.ensures.capacity in omega arith;
       waiting = let a = c.self.invariant.waiting in let b = c.push-2.ensures.capacity in omega arith;
-      candidates = let a = c.self.invariant.candidates in let b = c.push-3.ensures.capacity in omega arith;
+      runs = let a = c.self.invariant.runs in let b = c.lengthen.ensures.count in let d = c.lengthen.ensures.capacity in omega arith;
     }
