@@ -60,18 +60,16 @@ pub fn mark_pair(marks: &[bool], lit: Lit) -> MarkPair
     }
 }
 
-// Marks a place, and makes room for it.
-pub fn mark(marks: &mut Vec<bool>, place: usize) -> Result<(), Memory>
-    requires { place < 2 ^ 34 }
-    ensures ok { OnOk result ((k : ℕ) → slice_index_or marks.new.items k false ≡ (if k == place then true else slice_index_or marks.old.items k false)) }
-    ensures err { OnErr result (marks.new.items ≡ marks.old.items) }
+// Marks a place.
+pub fn mark(marks: &mut Vec<bool>, place: usize)
+    requires { place < vec_len marks.old }
+    ensures { (k : ℕ) → slice_index_or marks.new.items k false ≡ (if k == place then true else slice_index_or marks.old.items k false) }
 {
-    grow(marks, place)?;
     marks[place] = true;
-    Ok(())
 }
 
-fn grow(marks: &mut Vec<bool>, place: usize) -> Result<(), Memory>
+// Makes room for the mark of a place.
+pub fn grow(marks: &mut Vec<bool>, place: usize) -> Result<(), Memory>
     requires { place < 2 ^ 34 }
     ensures room { OnOk result (place < vec_len marks.new) }
     ensures ok { OnOk result ((k : ℕ) → slice_index_or marks.new.items k false ≡ slice_index_or marks.old.items k false) }

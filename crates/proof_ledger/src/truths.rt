@@ -6,7 +6,7 @@ ghost use Rattle.prop_core.specs.Derivation.{standing, after_hint};
 ghost use Rattle.proof_ledger.specs.Following.{standing_of, progress_of};
 ghost use Rattle.proof_ledger.specs.Fronts.{front_with, front_standing};
 
-use crate::marks::{MarkPair, mark, mark_pair, place, unmark_all};
+use crate::marks::{MarkPair, grow, mark, mark_pair, place, unmark_all};
 use des_base::Memory;
 use prop_core::Lit;
 use std::alloc::Global;
@@ -122,9 +122,10 @@ impl Truths {
         ensures ok { OnOk result (self.new ≡ self.old ++ lit ∷ []) }
         ensures err { OnErr result (self.new ≡ self.old) }
     {
-        self.taken.reserve(1)?;
-        mark(&mut self.marks, place(lit))?;
-        self.taken.push(lit).unwrap();
+        let place = place(lit);
+        grow(&mut self.marks, place)?;
+        self.taken.push(lit)?;
+        mark(&mut self.marks, place);
         Ok(())
     }
 
