@@ -1,5 +1,5 @@
 -- What is so of the values of files is so over their bytes.
-use Rattle.std.proofs.Common.{◌≡◌, ℕ, List, [], ◌∷◌, ◌++◌, None, sym, subst}
+use Rattle.std.proofs.Common.{◌≡◌, ◌∙◌, ℕ, List, [], ◌∷◌, ◌++◌, None, ap, sym, subst}
 use Rattle.des_net.specs.Network.{Net}
 use Rattle.inquiries.specs.declared.question.Case.{Case}
 use Rattle.log_csv.specs.LogText.{log_of}
@@ -7,14 +7,15 @@ use Rattle.log_csv.specs.ScriptText.{script_of}
 use Rattle.log_csv.specs.declared.row.Row.{Row}
 use Rattle.log_order.specs.Log.{Log as AlarmLog}
 use Rattle.model_text.specs.ModelFaults.{network_of}
-use Rattle.proof_ledger.specs.declared.checker.ProofStep.{ProofStep}
+use Rattle.proof_ledger.specs.Checking.{check_proof}
+use Rattle.proof_ledger.specs.declared.checker.Checked.{Checked}
 use Rattle.proof_text.specs.CnfText.{Formula, formula, formula_of}
 use Rattle.proof_text.specs.LratText.{proof_of}
 use Rattle.proof_text.specs.declared.cnf.Cnf.{Cnf}
 use Rattle.replay.specs.RunText.{run_of}
 use Rattle.replay.specs.declared.run.RunStep.{RunStep}
 use Rattle.endings.specs.Texts.{fault_of_model}
-use Rattle.diagnose_cli.specs.FilesRead.{AreReadThen, IsCaseRead, IsFormulaRead, IsModelRead}
+use Rattle.diagnose_cli.specs.FilesRead.{AreReadThen, IsCaseRead, IsFormulaRead, IsModelRead, IsProofChecked}
 
 module _ (G : List (List ℕ) → Type 0) (texts : List (List ℕ)) where
   pub over_none : texts ≡ [] → G [] → G texts
@@ -38,11 +39,15 @@ module _ (G : List (List ℕ) → Type 0) (texts : List (List ℕ)) where
   pub over_script : (F : Net → List Row → Type 0) → ((text lines : List ℕ) → F (network_of text) (script_of lines) → G (text ∷ lines ∷ [])) → (net : Net) (rows : List Row) → AreReadThen IsModelRead (λ n lines r. r ≡ script_of lines) texts net rows → F net rows → G texts
   over_script F g net rows read f = over_second (λ n. F n rows) (λ n lines r. r ≡ script_of lines) rows (λ text lines is h. g text lines (subst (F (network_of text)) is h)) net read f
 
-  pub over_proof : (F : Formula → List ProofStep → Type 0) → ((text steps : List ℕ) → F (formula_of text) (proof_of steps) → G (text ∷ steps ∷ [])) → (cnf : Cnf) (proof : List ProofStep)
-      → AreReadThen (λ ts (c : Cnf). IsFormulaRead ts (formula c.vars c.clauses.clauses)) (λ (c : Cnf) steps p. p ≡ proof_of steps) texts cnf proof → F (formula cnf.vars cnf.clauses.clauses) proof → G texts
-  over_proof F g cnf proof read f =
-      let first = read.first in
-      subst G (sym read.texts_are) (subst (λ (ts : List (List ℕ)). G (ts ++ read.text ∷ [])) (sym first.texts_are) (g first.text read.text (subst (F (formula_of first.text)) read.is (subst (λ (x : Formula). F x proof) first.is f))))
+-- the outcome of a proof, over the formula that is read before it
+pub outcome_read : (texts : List (List ℕ)) (cnf : Cnf) (checked : Checked)
+    → AreReadThen (λ ts (c : Cnf). IsFormulaRead ts (formula c.vars c.clauses.clauses)) (λ (c : Cnf) text (o : Checked). o ≡ check_proof c.clauses.clauses (proof_of text)) texts cnf checked → IsProofChecked texts checked
+outcome_read texts cnf checked read = record {
+  formula = read.first.text;
+  proof = read.text;
+  texts_are = read.texts_are ∙ ap (λ (ts : List (List ℕ)). ts ++ read.text ∷ []) read.first.texts_are;
+  is = read.is ∙ ap (λ (f : Formula). check_proof f.clauses (proof_of read.text)) read.first.is;
+}
 
 -- a model, a log, and one file more of which P holds
 module _ (G : List (List ℕ) → Type 0) (texts : List (List ℕ)) where

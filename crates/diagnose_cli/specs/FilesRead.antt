@@ -5,7 +5,10 @@ use Rattle.des_net.specs.Network.{Net}
 use Rattle.log_csv.specs.LogText.{log_of}
 use Rattle.log_order.specs.Log.{Log as AlarmLog}
 use Rattle.model_text.specs.ModelFaults.{network_of}
+use Rattle.proof_ledger.specs.Checking.{check_proof}
+use Rattle.proof_ledger.specs.declared.checker.Checked.{Checked}
 use Rattle.proof_text.specs.CnfText.{Formula, formula_of}
+use Rattle.proof_text.specs.LratText.{proof_of}
 use Rattle.replay.specs.Traced.{word_of}
 use Rattle.replay.specs.declared.run.RunStep.{RunStep}
 use Rattle.endings.specs.declared.stop.Stop.{Stop}
@@ -48,6 +51,13 @@ pub record IsFormulaRead (texts : List (List ℕ)) (formula : Formula) : Type 0 
   pub text : List ℕ
   pub texts_are : texts ≡ text ∷ []
   pub is : formula ≡ formula_of text
+
+-- the outcome of the proof of a proof text over the formula of a formula text
+pub record IsProofChecked (texts : List (List ℕ)) (checked : Checked) : Type 0 where
+  pub formula : List ℕ
+  pub proof : List ℕ
+  pub texts_are : texts ≡ formula ∷ proof ∷ []
+  pub is : checked ≡ check_proof (formula_of formula).clauses (proof_of proof)
 
 -- what is read of some files, and of one behind them
 pub record AreReadThen {A B : Type 0} (reads : List (List ℕ) → A → Type 0) (tells : A → List ℕ → B → Type 0) (texts : List (List ℕ)) (before : A) (last : B) : Type 0 where

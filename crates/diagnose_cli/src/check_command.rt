@@ -2,14 +2,11 @@
 ghost use Rattle.std.specs.Prelude.{◌≡◌, IfOk, refl};
 ghost use Rattle.diagnose_cli.specs.Commands.{check};
 ghost use Rattle.diagnose_cli.specs.Replies.{kind_of_checked, reply_of_checked};
-ghost use Rattle.proof_ledger.specs.Checking.{check_proof};
 
 use crate::answering::Answering;
-use crate::reading::CnfProof;
 use des_base::{Memory, WordList};
 use endings::{Kind, Reply, Stop};
-use proof_ledger::{Checked, Ledger, check};
-use proof_text::{Cnf, Proof};
+use proof_ledger::{Checked, Ledger};
 use report::print_checked;
 use std::alloc::Global;
 
@@ -18,7 +15,7 @@ use std::alloc::Global;
 pub struct CheckCommand;
 
 impl Answering for CheckCommand {
-    type Files = CnfProof;
+    type Files = Checked;
 
     ghost named = { check };
 
@@ -38,10 +35,10 @@ impl Answering for CheckCommand {
         &self,
         alloc: Global,
         _words: &WordList,
-        files: &CnfProof,
+        files: &Checked,
         _book: &mut Ledger,
     ) -> Result<Reply, Stop> {
-        Ok(check_proof(alloc, &files.cnf, &files.proof)?)
+        Ok(reply_of_checked(alloc, files)?)
     }
 
     ghost has_files = { λ w. refl };
@@ -49,15 +46,7 @@ impl Answering for CheckCommand {
     ghost has_words = { refl };
 }
 
-// The reply to a proof.
-fn check_proof(alloc: Global, cnf: &Cnf, proof: &Proof) -> Result<Reply, Memory>
-    ensures { IfOk result (λ reply. reply ≡ reply_of_checked (check_proof cnf.now.clauses.clauses proof.now)) }
-{
-    let checked = check(alloc, &cnf.clauses, proof.steps())?;
-    reply_of_checked(alloc, &checked)
-}
-
-// The reply that tells the answer.
+// The reply to a proof of this outcome.
 fn reply_of_checked(alloc: Global, checked: &Checked) -> Result<Reply, Memory>
     ensures { IfOk result (λ reply. reply ≡ reply_of_checked checked.now) }
 {

@@ -2,28 +2,29 @@
 ghost use Rattle.std.specs.Prelude.{◌≡◌, ◌≢◌, ℕ, ◌+◌, ◌<◌, ◌≤◌, ⊤, List, [], ◌∷◌, ◌++◌, length, IfErr, IfOk, Option, refl};
 ghost use Rattle.std.proofs.Common.{ap, subst, sym};
 ghost use Rattle.des_base.specs.CommandWords.{word_at};
-ghost use Rattle.diagnose_cli.specs.FilesRead.{AreReadAs, AreReadThen, EventsAreOf, IsCaseRead, IsFormulaRead, IsLogRead, IsModelRead, StopsAmong};
+ghost use Rattle.diagnose_cli.specs.FilesRead.{AreReadAs, AreReadThen, EventsAreOf, IsCaseRead, IsFormulaRead, IsLogRead, IsModelRead, IsProofChecked, StopsAmong};
 ghost use Rattle.endings.specs.Files.{IsReadAs, StopsIn, loads};
 ghost use Rattle.endings.specs.Texts.{FileKind, cnf, costs, fault_of_costs, fault_of_log, fault_of_lrat, fault_of_run, fault_of_script, fault_of_text, limit_of, log, lrat, model, run, script};
 ghost use Rattle.endings.specs.declared.stop.FaultyText.{FaultyText};
 ghost use Rattle.event_costs.specs.CostText.{IsTableOf};
 ghost use Rattle.log_csv.specs.ScriptText.{script_of};
+ghost use Rattle.proof_ledger.specs.Checking.{check_proof};
 ghost use Rattle.proof_text.specs.CnfText.{formula};
 ghost use Rattle.proof_text.specs.LratText.{proof_of};
-ghost use Rattle.proof_text.specs.declared.cnf.Cnf.{Cnf as CnfText};
 ghost use Rattle.inquiries.specs.declared.question.Case.{Case as InquiryCase};
 ghost use Rattle.replay.specs.RunText.{run_of};
 
 use des_base::{Shelf, WordList};
 use des_net::Network;
 use endings::{
-    Stop, fetch_cnf, fetch_costs, fetch_log, fetch_lrat, fetch_model, fetch_run, fetch_script,
+    Stop, fetch_checked, fetch_cnf, fetch_costs, fetch_log, fetch_model, fetch_run, fetch_script,
 };
 use event_costs::CostTable;
 use inquiries::Case;
 use log_csv::Script;
 use log_order::AlarmLog;
-use proof_text::{Cnf, Proof};
+use proof_ledger::Checked;
+use proof_text::Cnf;
 use replay::Run;
 use std::alloc::Global;
 
@@ -257,23 +258,34 @@ impl Behind<Case> for CostTable {
 
 // ---- a proof behind a formula
 
-impl Behind<Cnf> for Proof {
+impl Behind<Cnf> for Checked {
     ghost kind = { lrat };
 
     ghost fault = { λ cnf. fault_of_lrat (formula cnf.vars cnf.clauses.clauses) };
 
-    ghost tells = { λ cnf text steps. steps ≡ proof_of text };
+    ghost tells = { λ cnf text checked. checked ≡ check_proof cnf.clauses.clauses (proof_of text) };
 
     fn fetch_behind<F: Shelf>(
         alloc: Global,
         words: &WordList,
         shelf: &mut F,
         cnf: &Cnf,
-    ) -> Result<Proof, Stop> {
-        fetch_lrat(alloc, words, shelf, 2, cnf)
+    ) -> Result<Checked, Stop> {
+        fetch_checked(alloc, words, shelf, 2, cnf)
     }
 
     ghost faulty = { λ cnf texts read. subst (λ (ts : List (List ℕ)). fault_of_lrat (formula cnf.vars cnf.clauses.clauses) ≡ fault_of_text lrat ts) (sym read.texts_are) (ap fault_of_lrat read.is) };
+}
+
+impl Reading for Checked {
+    ghost kinds = { cnf ∷ lrat ∷ [] };
+
+    ghost reads = { IsProofChecked };
+
+    fn fetch<F: Shelf>(alloc: Global, words: &WordList, shelf: &mut F) -> Result<Checked, Stop> {
+        let Then { last, .. } = Then::<Cnf, Checked>::fetch(alloc, words, shelf)?;
+        Ok(last)
+    }
 }
 
 // ---- these, by the names of what they have
@@ -343,27 +355,6 @@ impl Reading for CostedCase {
         Ok(CostedCase {
             case: before,
             table: last,
-        })
-    }
-}
-
-/// A formula, and a proof over it.
-#[derive(Drop)]
-pub struct CnfProof {
-    pub cnf: Cnf,
-    pub proof: Proof,
-}
-
-impl Reading for CnfProof {
-    ghost kinds = { cnf ∷ lrat ∷ [] };
-
-    ghost reads = { λ texts files. AreReadThen (λ ts (c : CnfText). IsFormulaRead ts (formula c.vars c.clauses.clauses)) (λ (c : CnfText) text steps. steps ≡ proof_of text) texts files.cnf files.proof };
-
-    fn fetch<F: Shelf>(alloc: Global, words: &WordList, shelf: &mut F) -> Result<CnfProof, Stop> {
-        let Then { before, last } = Then::<Cnf, Proof>::fetch(alloc, words, shelf)?;
-        Ok(CnfProof {
-            cnf: before,
-            proof: last,
         })
     }
 }

@@ -16,7 +16,8 @@ use Rattle.log_csv.specs.LogText.{log_of, first_log_fault}
 use Rattle.log_csv.specs.ScriptText.{first_script_fault, script_of}
 use Rattle.log_csv.specs.declared.row.Row.{Row}
 use Rattle.prop_core.specs.Clauses.{Clause}
-use Rattle.proof_ledger.specs.declared.checker.ProofStep.{ProofStep}
+use Rattle.proof_ledger.specs.Checking.{check_proof}
+use Rattle.proof_ledger.specs.declared.checker.Checked.{Checked}
 use Rattle.proof_text.specs.declared.fault.TextRefusal.{TextRefusal}
 use Rattle.proof_text.specs.declared.fault.TextRefusal.TheVariants.{Fault as TextFaulty, Memory as TextMemory}
 use Rattle.proof_text.specs.TextFaults.{IsTextDue}
@@ -100,17 +101,15 @@ pub cnf_read : (held : List ℕ → Option (List ℕ)) (name : List ℕ) (limit 
     → IsReadAs held name limit fault_of_cnf (λ text. formula vars clauses ≡ formula_of text)
 cnf_read held name limit text vars clauses holds well is = (text, is_well held name limit first_cnf_fault (λ f. Cnf f) text holds well, is)
 
-pub lrat_stops : (l : Loads) (i : ℕ) (name : List ℕ) (limit : ℕ) (vars : ℕ) (clauses : List Clause) (count : ℕ) (text : List ℕ) (refusal : TextRefusal) (stop : Stop) → count ≡ length clauses
-    → Holds l.held name limit text → IsTextDue (first_lrat_fault vars count text) refusal → stop ≡ stop_of_lrat refusal → stop ≢ Memory → StopsIn l i name limit (fault_of_lrat (formula vars clauses)) stop
-lrat_stops l i name limit vars clauses count text (TextFaulty fault) stop same holds due is never =
-    by_fault l i name limit (first_lrat_fault vars (length clauses)) (λ f. Lrat f) text fault stop holds (subst (λ (n : ℕ). first_lrat_fault vars n text ≡ Some fault) same due) is
-lrat_stops l i name limit vars clauses count text TextMemory stop same holds due is never = absurd (never is)
+pub lrat_stops : (l : Loads) (i : ℕ) (name : List ℕ) (limit : ℕ) (vars : ℕ) (clauses : List Clause) (text : List ℕ) (refusal : TextRefusal) (stop : Stop)
+    → Holds l.held name limit text → IsTextDue (first_lrat_fault vars (length clauses) text) refusal → stop ≡ stop_of_lrat refusal → stop ≢ Memory → StopsIn l i name limit (fault_of_lrat (formula vars clauses)) stop
+lrat_stops l i name limit vars clauses text (TextFaulty fault) stop holds due is never = by_fault l i name limit (first_lrat_fault vars (length clauses)) (λ f. Lrat f) text fault stop holds due is
+lrat_stops l i name limit vars clauses text TextMemory stop holds due is never = absurd (never is)
 
-pub lrat_read : (held : List ℕ → Option (List ℕ)) (name : List ℕ) (limit : ℕ) (vars : ℕ) (clauses : List Clause) (count : ℕ) (text : List ℕ) (proof : List ProofStep) → count ≡ length clauses
-    → Holds held name limit text → first_lrat_fault vars count text ≡ None → proof ≡ proof_of text
-    → IsReadAs held name limit (fault_of_lrat (formula vars clauses)) (λ text. proof ≡ proof_of text)
-lrat_read held name limit vars clauses count text proof same holds well is =
-    (text, is_well held name limit (first_lrat_fault vars (length clauses)) (λ f. Lrat f) text holds (subst (λ (n : ℕ). first_lrat_fault vars n text ≡ None) same well), is)
+pub lrat_checked : (held : List ℕ → Option (List ℕ)) (name : List ℕ) (limit : ℕ) (vars : ℕ) (clauses : List Clause) (text : List ℕ) (checked : Checked)
+    → Holds held name limit text → first_lrat_fault vars (length clauses) text ≡ None → checked ≡ check_proof clauses (proof_of text)
+    → IsReadAs held name limit (fault_of_lrat (formula vars clauses)) (λ text. checked ≡ check_proof clauses (proof_of text))
+lrat_checked held name limit vars clauses text checked holds well is = (text, is_well held name limit (first_lrat_fault vars (length clauses)) (λ f. Lrat f) text holds well, is)
 
 pub costs_stop : (l : Loads) (i : ℕ) (name : List ℕ) (limit : ℕ) (net : Net) (text : List ℕ) (refusal : CostRefusal) (stop : Stop)
     → Holds l.held name limit text → IsCostDue (first_cost_fault net text) refusal → stop ≡ stop_of_cost refusal → stop ≢ Memory → StopsIn l i name limit (fault_of_costs net) stop

@@ -5,6 +5,7 @@ ghost use Rattle.event_costs.specs.CostText.{IsTableOf};
 ghost use Rattle.model_text.specs.ModelFaults.{network_of};
 ghost use Rattle.log_csv.specs.LogText.{log_of};
 ghost use Rattle.log_csv.specs.ScriptText.{script_of};
+ghost use Rattle.proof_ledger.specs.Checking.{check_proof};
 ghost use Rattle.proof_text.specs.CnfText.{formula, formula_of};
 ghost use Rattle.proof_text.specs.LratText.{proof_of};
 ghost use Rattle.replay.specs.RunText.{run_of};
@@ -19,7 +20,8 @@ use event_costs::{CostTable, read_costs};
 use log_csv::{Script, read_log, read_script};
 use log_order::AlarmLog;
 use model_text::read_model;
-use proof_text::{Cnf, Proof, read_cnf, read_lrat};
+use proof_ledger::Checked;
+use proof_text::{Cnf, check_lrat, read_cnf};
 use replay::{Run, read_run};
 use std::alloc::Global;
 
@@ -156,25 +158,25 @@ pub fn fetch_cnf<F: Shelf>(
     }
 }
 
-/// The proof in this place among the command's files, over the formula.
-#[tactic(auto, using(crate::proofs::Reading::lrat_stops, crate::proofs::Reading::lrat_read))]
-pub fn fetch_lrat<F: Shelf>(
+/// The outcome of the proof in this place among the command's files, over the formula.
+#[tactic(auto, using(crate::proofs::Reading::lrat_stops, crate::proofs::Reading::lrat_checked))]
+pub fn fetch_checked<F: Shelf>(
     alloc: Global,
     words: &WordList,
     shelf: &mut F,
     place: u32,
     cnf: &Cnf,
-) -> Result<Proof, Stop>
+) -> Result<Checked, Stop>
     requires place { place < length words.now }
     requires few { cnf.now.vars ≤ 100000000 }
-    ensures proof { IfOk result (λ proof. IsReadAs (F.held shelf.old) (word_at words.now place) PROOF_LIMIT (fault_of_lrat (formula cnf.now.vars cnf.now.clauses.clauses)) (λ text. proof ≡ proof_of text)) }
+    ensures checked { IfOk result (λ checked. IsReadAs (F.held shelf.old) (word_at words.now place) PROOF_LIMIT (fault_of_lrat (formula cnf.now.vars cnf.now.clauses.clauses)) (λ text. checked ≡ check_proof cnf.now.clauses.clauses (proof_of text))) }
     ensures stop { IfErr result (λ stop. stop ≢ Stop.Memory → StopsIn (loads F.held F.faults shelf.old shelf.new) place (word_at words.now place) PROOF_LIMIT (fault_of_lrat (formula cnf.now.vars cnf.now.clauses.clauses)) stop) }
     ensures kept { F.held shelf.new ≡ F.held shelf.old }
     ensures never_falls { (n : List ℕ) → F.faults shelf.old n ≤ F.faults shelf.new n }
 {
     let text = fetch(alloc, shelf, place, words.word(place as usize), PROOF_LIMIT)?;
-    match read_lrat(alloc, text.as_slice(), cnf.vars, cnf.clauses.len()) {
-        Ok(proof) => Ok(proof),
+    match check_lrat(alloc, text.as_slice(), cnf) {
+        Ok(checked) => Ok(checked),
         Err(refusal) => Err(stop_of_lrat(refusal)),
     }
 }

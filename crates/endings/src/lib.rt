@@ -16,6 +16,6 @@ mod stop;
 
 pub use ending::{Kind, Reply, put_once};
 pub use files::{
-    fetch_cnf, fetch_costs, fetch_log, fetch_lrat, fetch_model, fetch_run, fetch_script,
+    fetch_checked, fetch_cnf, fetch_costs, fetch_log, fetch_model, fetch_run, fetch_script,
 };
 pub use stop::{FaultyText, Stop};

@@ -1,6 +1,5 @@
 -- A proof that is verified refutes its axioms.
-use Rattle.std.proofs.Common.{◌≡◌, ◌∙◌, ℕ, zero, suc, ◌+◌, ◌-◌, ◌<◌, ◌==◌, Bool, true, false, ◌∷◌, [], List, refl, ap, sym, length, arith, subst, drop, Some, None, Option, slice_get, get_or, cond, IsTrue, nat_eq, add-one, sub-one}
-use Rattle.std.proofs.Math.Seq.{drop-cons}
+use Rattle.std.proofs.Common.{◌≡◌, ◌∙◌, ℕ, zero, suc, ◌-◌, ◌==◌, Bool, true, false, ◌∷◌, [], List, refl, ap, sym, arith, subst, Some, None, Option, slice_get, cond, IsTrue, nat_eq, sub-one}
 use Rattle.std.specs.List.{list_any}
 use Rattle.prop_core.specs.Clauses.{Clause, clause_true, AllClausesTrue}
 use Rattle.prop_core.specs.Derivation.{derive, Derivation, derives, fails, clause_numbered}
@@ -10,7 +9,7 @@ use Rattle.proof_ledger.specs.declared.checker.ProofStep.{ProofStep}
 use Rattle.proof_ledger.specs.declared.checker.ProofStep.TheVariants.{Add, Delete}
 use Rattle.proof_ledger.specs.declared.checker.Checked.{Checked}
 use Rattle.proof_ledger.specs.declared.checker.Checked.TheVariants.{Verified}
-use Rattle.proof_ledger.specs.Checking.{with_clause, without, is_empty_clause, Checking, answered, holds, after_add, after_step, check_from, check_proof, IsCheckedSoFar, IsUnsatisfiable}
+use Rattle.proof_ledger.specs.Checking.{with_clause, without, is_empty_clause, Checking, answered, holds, after_add, after_step, after_next, check_from, check_proof, rest_gives, IsUnsatisfiable}
 use Rattle.des_base.proofs.BoolLemmas.{differ}
 
 -- two that hold the same are one
@@ -79,26 +78,11 @@ numbered_true value clauses all number given e = by (number == 0) e
 pub verified_refutes : (axioms : List Clause) (steps : List ProofStep) → check_proof axioms steps ≡ Verified → IsUnsatisfiable axioms
 verified_refutes axioms steps e value all = verified_false value steps (clause_numbered axioms) (numbered_true value axioms all) e
 
-step_more : (steps : List ProofStep) (i : ℕ) (step : ProofStep) → i < length steps → step ≡ get_or steps i step → drop i steps ≡ step ∷ drop (i + 1) steps
-step_more steps i step h e = rw (add-one, drop-cons steps i step h) (ap (λ s. s ∷ drop (suc i) steps) (sym e))
-
--- a step ends the proof
-pub check-answered : (held : ℕ → Option Clause) (steps : List ProofStep) (i : ℕ) (step : ProofStep) (checked : Checked) → i < length steps → step ≡ get_or steps i step →
-    after_step held step ≡ answered checked → check_from held (drop i steps) ≡ checked
-check-answered held steps i step checked h e is = ap (check_from held) (step_more steps i step h e) ∙ rw (is, check_from) refl
-
--- or it goes on with what is held then
-pub check-holds : (held after : ℕ → Option Clause) (steps : List ProofStep) (i : ℕ) (step : ProofStep) → i < length steps → step ≡ get_or steps i step →
-    IsCheckedSoFar (after_step held step) None after → check_from held (drop i steps) ≡ check_from after (drop (i + 1) steps)
-check-holds held after steps i step h e (other, is, same) =
-    ap (check_from held) (step_more steps i step h e) ∙ (rw (is, check_from) refl ∙ ap (λ (f : ℕ → Option Clause). check_from f (drop (i + 1) steps)) (sym (held_same after other same)))
-
--- a step that adds a clause, other than the empty one
-pub add_holds : (held : ℕ → Option Clause) (step : ProofStep) (line id : ℕ) (clause : Clause) (hints : List ℕ) → step ≡ Add line id clause hints → derive held clause hints ≡ derives →
-    (length clause == 0) ≡ false → after_step held step ≡ holds (with_clause held id clause)
-add_holds held step line id [] hints is d e = cc
-add_holds held step line id (l ∷ ls) hints is d e = ap (after_step held) is ∙ ap (after_add held line id (l ∷ ls)) d
-
--- a step that deletes
-pub delete_holds : (held : ℕ → Option Clause) (step : ProofStep) (ids : List ℕ) → step ≡ Delete ids → after_step held step ≡ holds (without held ids)
-delete_holds held step ids is = ap (after_step held) is
+-- what the first of the steps reaches, the others go on from
+pub rest_gives-next : (checking : Checking) (step : ProofStep) (steps : List ProofStep) → rest_gives (after_next checking step) steps ≡ rest_gives checking (step ∷ steps)
+rest_gives-next (answered checked) step steps = refl
+rest_gives-next (holds held) step steps = by (after_step held step) refl
+  where
+    by : (c : Checking) → after_step held step ≡ c → rest_gives (after_step held step) steps ≡ check_from held (step ∷ steps)
+    by (answered checked) e = let is : check_from held (step ∷ steps) ≡ checked = rw (e, check_from) refl in ap (λ c. rest_gives c steps) e ∙ sym is
+    by (holds more) e = let is : check_from held (step ∷ steps) ≡ check_from more steps = rw (e, check_from) refl in ap (λ c. rest_gives c steps) e ∙ sym is

@@ -6,5 +6,6 @@ pub mod AxiomLists
 pub mod BookTruth
 mod Helds
 mod Marking
+mod Places
 mod Vectors
 pub mod Fronts

@@ -1,5 +1,5 @@
 -- What a proof comes to whose steps are taken in order.
-use Rattle.std.specs.Prelude.{◌≡◌, ℕ, ◌==◌, Bool, true, false, List, [], ◌∷◌, Option, Some, None, if◌then◌else◌, nat_eq}
+use Rattle.std.specs.Prelude.{ℕ, ◌==◌, Bool, true, false, List, [], ◌∷◌, Option, Some, None, if◌then◌else◌, nat_eq}
 use Rattle.std.specs.List.{list_any}
 use Rattle.prop_core.specs.Clauses.{Clause, AllClausesTrue}
 use Rattle.prop_core.specs.Derivation.{derive, Derivation, derives, fails, clause_numbered}
@@ -45,11 +45,16 @@ check_from held (step ∷ steps) = elim (after_step held step) as (λ _. Checked
 abbrev pub check_proof : List Clause → List ProofStep → Checked
 check_proof axioms steps = check_from (clause_numbered axioms) steps
 
+-- what the rest of a proof gives, by what is reached before it
+abbrev pub rest_gives : Checking → List ProofStep → Checked
+rest_gives (answered checked) steps = checked
+rest_gives (holds held) steps = check_from held steps
+
+-- what is reached after one more step: an answer stays
+abbrev pub after_next : Checking → ProofStep → Checking
+after_next (answered checked) step = answered checked
+after_next (holds held) step = after_step held step
+
 -- no assignment makes all clauses true
 abbrev pub IsUnsatisfiable : List Clause → Type 0
 IsUnsatisfiable clauses = (value : ℕ → Bool) → AllClausesTrue value clauses → ⊥
-
--- the code's answer after a step, and what is held then
-abbrev pub IsCheckedSoFar : Checking → Option Checked → (ℕ → Option Clause) → Type 0
-IsCheckedSoFar checking (Some checked) held = checking ≡ answered checked
-IsCheckedSoFar checking None held = (other : ℕ → Option Clause) × (checking ≡ holds other) × ((number : ℕ) → held number ≡ other number)

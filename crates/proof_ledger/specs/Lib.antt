@@ -4,5 +4,7 @@ pub mod Marks
 pub mod Following
 pub mod Fresh
 pub mod Checking
+pub mod Checkers
 pub mod HeldClauses
+pub mod ClauseNumbers
 pub mod Fronts

@@ -1,7 +1,9 @@
 // The checker of proofs.
-ghost use Rattle.std.specs.Prelude.{◌≡◌, IfOk};
-ghost use Rattle.proof_ledger.specs.HeldClauses.{held_by};
-ghost use Rattle.proof_ledger.specs.Checking.{check_proof, after_step, IsCheckedSoFar, IsUnsatisfiable};
+ghost use Rattle.std.specs.Prelude.{◌≡◌, [], IfOk, OnOk};
+ghost use Rattle.prop_core.specs.Derivation.{clause_numbered};
+ghost use Rattle.proof_ledger.specs.declared.checker.ProofStep.TheVariants as steps;
+ghost use Rattle.proof_ledger.specs.Checking.{holds, after_next, rest_gives};
+ghost use Rattle.proof_ledger.specs.Checkers.{reached};
 
 use crate::follow::{Outcome, derive_by};
 use crate::held::HeldClauses;
@@ -36,67 +38,69 @@ pub enum Checked {
     Rejected { line: u32, kind: u8 },
 }
 
-/// Checks a proof. The axioms are held by their numbers from 1.
-///
-/// Steps after the first with the empty clause aren't looked at.
-pub fn check(alloc: Global, axioms: &Clauses, steps: &[ProofStep]) -> Result<Checked, Memory>
-    ensures checked { IfOk result (λ checked. checked ≡ check_proof axioms.now.clauses steps.now) }
-    ensures sound { IfOk result (λ checked. checked ≡ Checked.Verified → IsUnsatisfiable axioms.now.clauses) }
-{
-    let room = room(axioms.len(), steps);
-    let mut held = HeldClauses::of_axioms(alloc, axioms, room)?;
-    let mut truths = Truths::new(alloc);
-    for step in steps {
-        match take_step(&mut truths, &mut held, step)? {
-            Some(checked) => return Ok(checked),
-            None => {}
-        }
-    }
-    Ok(Checked::Rejected { line: 0, kind: 4 })
+/// A checker of a proof. It takes the steps one after another, and looks at none behind one that ends the proof.
+#[derive(Drop)]
+pub struct Checker<'a> {
+    held: HeldClauses<'a>,
+    truths: Truths,
+    // the outcome, if a step has ended the proof
+    outcome: Option<Checked>,
 }
 
-// For how many numbers from 0 on it is worthwhile to have a list: up to the greatest number of a step, if that is no more than four for each step
-// beyond the axioms. Whatever it is, the outcome of a proof is the same.
-fn room(axioms: u64, steps: &[ProofStep]) -> usize {
-    let most = axioms.saturating_add((steps.len() as u64).saturating_mul(4));
-    let mut greatest = axioms;
-    for step in steps {
-        if let ProofStep::Add { id, .. } = step {
-            if *id <= most {
-                greatest = greatest.max(*id);
-            }
-        }
+impl<'a> Checker<'a> {
+    /// Before the first step: the axioms are held by their numbers from 1.
+    pub fn new(alloc: Global, axioms: &'a Clauses) -> Result<Checker<'a>, Memory>
+        ensures { IfOk result (λ checker. reached checker ≡ holds (clause_numbered axioms.now.clauses)) }
+    {
+        Ok(Checker {
+            held: HeldClauses::of_axioms(alloc, axioms)?,
+            truths: Truths::new(alloc),
+            outcome: None,
+        })
     }
-    greatest.saturating_add(1) as usize
-}
 
-// Takes a step, and gives the proof's outcome if the step ends it.
-fn take_step<'a>(
-    truths: &mut Truths,
-    held: &mut HeldClauses<'a>,
-    step: &'a ProofStep,
-) -> Result<Option<Checked>, Memory>
-    ensures { IfOk result (λ ended. IsCheckedSoFar (after_step (held_by held.old) step.now) ended (held_by held.new)) }
-{
-    match step {
-        ProofStep::Add {
-            line,
-            id,
-            clause,
-            hints,
-        } => match derive_by(truths, held, clause.as_slice(), hints.as_slice())? {
-            Outcome::Fails { kind, .. } => Ok(Some(Checked::Rejected { line: *line, kind })),
+    /// Takes an addition. It ends the proof if the hints don't derive the clause, or if the clause is empty.
+    pub fn add(
+        &mut self,
+        line: u32,
+        id: u64,
+        clause: &[Lit],
+        hints: &[ClauseId],
+    ) -> Result<(), Memory>
+        ensures { OnOk result (reached self.new ≡ after_next (reached self.old) (steps.Add line id clause.now hints.now)) }
+    {
+        if self.outcome.is_some() {
+            return Ok(());
+        }
+        match derive_by(&mut self.truths, &self.held, clause, hints)? {
+            Outcome::Fails { kind, .. } => self.outcome = Some(Checked::Rejected { line, kind }),
             Outcome::Derives => {
-                if clause.as_slice().is_empty() {
-                    return Ok(Some(Checked::Verified));
+                if clause.is_empty() {
+                    self.outcome = Some(Checked::Verified);
+                } else {
+                    self.held.add(id, clause)?;
                 }
-                held.add(*id, clause.as_slice())?;
-                Ok(None)
             }
-        },
-        ProofStep::Delete { ids } => {
-            held.delete(ids.as_slice());
-            Ok(None)
+        }
+        Ok(())
+    }
+
+    /// Takes a deletion.
+    pub fn delete(&mut self, ids: &[ClauseId])
+        ensures { reached self.new ≡ after_next (reached self.old) (steps.Delete ids.now) }
+    {
+        if self.outcome.is_none() {
+            self.held.delete(ids);
+        }
+    }
+
+    /// The outcome of the steps so far, if no other is to come.
+    pub fn outcome(&self) -> Checked
+        ensures { result ≡ rest_gives (reached self.now) [] }
+    {
+        match self.outcome {
+            Some(outcome) => outcome,
+            None => Checked::Rejected { line: 0, kind: 4 },
         }
     }
 }

@@ -15,8 +15,9 @@ mod follow;
 mod held;
 mod ledger;
 mod marks;
+mod near;
 mod truths;
 
-pub use checker::{Checked, ProofStep, check};
+pub use checker::{Checked, Checker, ProofStep};
 pub use entry::{DeriveFault, Entry};
 pub use ledger::Ledger;

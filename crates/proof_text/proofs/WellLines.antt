@@ -12,6 +12,8 @@ use Rattle.proof_ledger.specs.declared.checker.ProofStep.TheVariants.{Delete}
 use Rattle.proof_text.specs.SignedNumbers.{is_number, size_of, is_negative, is_zero, literal_of}
 use Rattle.proof_text.specs.LratText.{cut_at_zero, is_too_large, is_unsigned, is_positive, some_rest, lrat_line_code, lrat_line, addition_line, deletion_of, is_deletion_mark, proof_step_of, last_after, lrat_fault_of, proof_steps_of, cut, with_token}
 use Rattle.proof_text.specs.LineReading.{is_id, is_known_literal, only, ids_only, with_hints, literals_and_hints, add_step, addition_read, deletion_read, step_read, line_read}
+use Rattle.proof_text.specs.StepParts.{step_with}
+use Rattle.proof_text.specs.declared.lrat_line.StepKind.{StepKind}
 use Rattle.proof_text.specs.ProofNumbers.{HasNoZero, NumbersAscend}
 use Rattle.proof_text.proofs.CnfLemmas.{text_fault_or-none}
 use Rattle.proof_text.proofs.CodeLemmas.{id_is_read, IsIdToken, id_token, id_passes, ids_pass, AreIds, are_ids, known_pass, are_known, nothing_numbers, first_ended, none_of, no_code}
@@ -227,10 +229,15 @@ none_step : (w : Bool) (said : ProofStep) → None ≡ cond w (Some said) None �
 none_step true said h = cc
 none_step false said h = refl
 
-pub step_is_said : (line vars last : ℕ) (texts : List (List ℕ)) (step : ProofStep) → Some step ≡ line_read line vars last texts → (step ≡ proof_step_of line (lrat_line texts)) × (lrat_line_code vars last (lrat_line texts) ≡ None)
+step_is_said : (line vars last : ℕ) (texts : List (List ℕ)) (step : ProofStep) → Some step ≡ line_read line vars last texts → (step ≡ proof_step_of line (lrat_line texts)) × (lrat_line_code vars last (lrat_line texts) ≡ None)
 step_is_said line vars last texts step h =
     let parts = some_step (line_well vars last texts) step (proof_step_of line (lrat_line texts)) (h ∙ line_is_read line vars last texts) in
     (parts.1, line_has_no_code vars last texts parts.0)
+
+-- the same of a step by its kind and its parts
+pub kind_is_said : (line vars last : ℕ) (texts : List (List ℕ)) (clause : List Lit) (ids : List ℕ) (kind : Option StepKind) (found it : StepKind) → kind ≡ Some found → found ≡ it → option_map (step_with line clause ids) kind ≡ line_read line vars last texts
+    → (step_with line clause ids it ≡ proof_step_of line (lrat_line texts)) × (lrat_line_code vars last (lrat_line texts) ≡ None)
+kind_is_said line vars last texts clause ids kind found it is same read = step_is_said line vars last texts (step_with line clause ids it) (sym (ap (option_map (step_with line clause ids)) (is ∙ ap Some same)) ∙ read)
 
 some_code : (o : Option ℕ) → (o ≡ None → ⊥) → IsSome o
 some_code None h = absurd (h refl)

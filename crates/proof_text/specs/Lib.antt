@@ -5,5 +5,6 @@ pub mod LratText
 pub mod ProofNumbers
 pub mod ClauseReading
 pub mod LineReading
+pub mod StepParts
 pub mod PrintedText
 pub mod Refutation

@@ -69,3 +69,7 @@ step_read line vars last (token ∷ tokens) id = if is_deletion_mark token then 
 abbrev pub line_read : ℕ → ℕ → ℕ → List (List ℕ) → Option ProofStep
 line_read line vars last [] = None
 line_read line vars last (id ∷ tokens) = option_and_then (step_read line vars last tokens) (number_up_to greatest id)
+
+-- what was read, if it was
+abbrev pub if_read : {X : Type 0} → Bool → X → Option X
+if_read read value = if read then Some value else None

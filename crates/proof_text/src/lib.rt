@@ -22,7 +22,7 @@ mod refuting;
 pub use cnf::Cnf;
 pub use cnf_text::read_cnf;
 pub use fault::{TextFault, TextRefusal};
-pub use lrat_text::read_lrat;
+pub use lrat_text::check_lrat;
 pub use print::{print_cnf, print_lrat};
 pub use proof::Proof;
 pub use refuting::{refutation_proof, refutations_check};

@@ -1,32 +1,37 @@
 // A line of a proof, and the step that it says.
-ghost use Rattle.std.specs.Prelude.{◌≡◌, ◌≤◌, ℕ, Some, None, MatchOption, option_map, IfOk};
+ghost use Rattle.std.specs.Prelude.{◌≡◌, ◌≤◌, ℕ, option_map, IfOk};
 ghost use Rattle.des_base.specs.CountedLines.{texts_of, tokens_of};
 ghost use Rattle.proof_text.specs.LratText.{is_deletion_mark};
-ghost use Rattle.proof_text.specs.LineReading.{ids_section, literals_section, ids_only, literals_and_hints, deletion_read, add_step, line_read};
+ghost use Rattle.proof_text.specs.LineReading.{if_read, ids_section, literals_section, ids_only, literals_and_hints, line_read};
+ghost use Rattle.proof_text.specs.StepParts.{step_with};
 
 use crate::number::{Entry, read_entry};
-use des_base::{Line, ListOf, Memory, Tokens, VAR_LIMIT, read_number};
-use proof_ledger::ProofStep;
+use des_base::{Line, Memory, Tokens, VAR_LIMIT, read_number};
 use prop_core::{ClauseId, Lit};
-use std::alloc::Global;
 
-// What is read of a line until it is known how much there is, so that each step takes only the memory that it needs.
+// The parts of a step: the clause of an addition, and its hints or the numbers of a deletion. Each line is read into the same vectors.
 #[derive(Drop)]
-pub(crate) struct Scratch {
-    pub ids: Vec<ClauseId>,
+pub(crate) struct StepParts {
     pub clause: Vec<Lit>,
+    pub ids: Vec<ClauseId>,
 }
 
-// The step of a line that has no fault. An addition's number has to be greater than `last`.
+// What a step does with its parts.
+#[derive(Clone, Copy)]
+pub(crate) enum StepKind {
+    Add { id: u64 },
+    Delete,
+}
+
+// Reads the parts of the step of a line that has no fault, and says what it does with them. An addition's number has to be greater than `last`.
 pub(crate) fn read_step(
-    alloc: Global,
     line: Line<'_>,
     vars: u32,
     last: u64,
-    scratch: &mut Scratch,
-) -> Result<Option<ProofStep>, Memory>
+    parts: &mut StepParts,
+) -> Result<Option<StepKind>, Memory>
     requires { vars ≤ VAR_LIMIT }
-    ensures { IfOk result (λ step. step ≡ line_read line.entry.number vars last (tokens_of line.entry.text.now)) }
+    ensures { IfOk result (λ kind. option_map (step_with line.entry.number parts.new.clause.items parts.new.ids.items) kind ≡ line_read line.entry.number vars last (tokens_of line.entry.text.now)) }
 {
     let mut tokens = line.tokens();
     let Some(first) = tokens.next_token() else {
@@ -39,12 +44,17 @@ pub(crate) fn read_step(
     if let Some(second) = ahead.next_token()
         && is_deletion_mark(second.text)
     {
-        return read_deletion(alloc, ahead, &mut scratch.ids);
+        return Ok(if read_last_ids(ahead, &mut parts.ids)? {
+            Some(StepKind::Delete)
+        } else {
+            None
+        });
     }
-    if id <= last {
-        return Ok(None);
+    if id > last && read_addition(vars, tokens, parts)? {
+        Ok(Some(StepKind::Add { id }))
+    } else {
+        Ok(None)
     }
-    read_addition(alloc, line.number, id, vars, tokens, scratch)
 }
 
 pub(crate) fn is_deletion_mark(text: &[u8]) -> bool
@@ -53,96 +63,54 @@ pub(crate) fn is_deletion_mark(text: &[u8]) -> bool
     text == b"d".as_slice()
 }
 
-fn read_deletion(
-    alloc: Global,
-    tokens: Tokens<'_>,
-    scratch: &mut Vec<ClauseId>,
-) -> Result<Option<ProofStep>, Memory>
-    ensures { IfOk result (λ step. step ≡ deletion_read (texts_of tokens.entry)) }
-{
-    match read_last_ids(alloc, tokens, scratch)? {
-        Some(ids) => Ok(Some(ProofStep::Delete { ids })),
-        None => Ok(None),
-    }
-}
-
-// The addition of this number, from the literals on.
-fn read_addition(
-    alloc: Global,
-    line: u32,
-    id: u64,
-    vars: u32,
-    mut tokens: Tokens<'_>,
-    scratch: &mut Scratch,
-) -> Result<Option<ProofStep>, Memory>
+// Reads an addition from the literals on, and says whether it is one.
+fn read_addition(vars: u32, mut tokens: Tokens<'_>, parts: &mut StepParts) -> Result<bool, Memory>
     requires { vars ≤ VAR_LIMIT }
-    ensures { IfOk result (λ step. step ≡ option_map (add_step line id) (literals_and_hints vars (texts_of tokens.entry))) }
+    ensures { IfOk result (λ read. literals_and_hints vars (texts_of tokens.entry) ≡ if_read read (parts.new.clause.items, parts.new.ids.items)) }
 {
-    let Some(clause) = read_literals(alloc, &mut tokens, vars, &mut scratch.clause)? else {
-        return Ok(None);
-    };
-    let Some(hints) = read_last_ids(alloc, tokens, &mut scratch.ids)? else {
-        return Ok(None);
-    };
-    Ok(Some(ProofStep::Add {
-        line,
-        id,
-        clause,
-        hints,
-    }))
-}
-
-// The clause numbers up to a `0` that ends the line.
-fn read_last_ids(
-    alloc: Global,
-    mut tokens: Tokens<'_>,
-    scratch: &mut Vec<ClauseId>,
-) -> Result<Option<ListOf<ClauseId>>, Memory>
-    ensures { IfOk result (λ ids. ids ≡ ids_only (texts_of tokens.entry)) }
-{
-    let ids = read_ids(alloc, &mut tokens, scratch)?;
-    if tokens.next_token().is_some() {
-        return Ok(None);
+    if !read_literals(&mut tokens, vars, &mut parts.clause)? {
+        return Ok(false);
     }
-    Ok(ids)
+    read_last_ids(tokens, &mut parts.ids)
 }
 
-// The clause numbers up to a `0`. None where another token stands among them, or no `0` does.
-fn read_ids(
-    alloc: Global,
-    tokens: &mut Tokens<'_>,
-    scratch: &mut Vec<ClauseId>,
-) -> Result<Option<ListOf<ClauseId>>, Memory>
-    ensures { IfOk result (λ ids. MatchOption ids (ids_section (texts_of tokens.old) ≡ None) (λ ids. ids_section (texts_of tokens.old) ≡ Some (ids, texts_of tokens.new))) }
+// Reads the clause numbers up to a `0`, and says whether that ends the line.
+fn read_last_ids(mut tokens: Tokens<'_>, ids: &mut Vec<ClauseId>) -> Result<bool, Memory>
+    ensures { IfOk result (λ read. ids_only (texts_of tokens.entry) ≡ if_read read ids.new.items) }
 {
-    scratch.clear();
+    if !read_ids(&mut tokens, ids)? {
+        return Ok(false);
+    }
+    Ok(tokens.next_token().is_none())
+}
+
+// Reads the clause numbers up to a `0`, and says whether there is one and nothing else stands before it.
+fn read_ids(tokens: &mut Tokens<'_>, ids: &mut Vec<ClauseId>) -> Result<bool, Memory>
+    ensures { IfOk result (λ read. ids_section (texts_of tokens.old) ≡ if_read read (ids.new.items, texts_of tokens.new)) }
+{
+    ids.clear();
     while let Some(token) = tokens.next_token() {
         match read_number(token.text, u64::MAX) {
-            None => return Ok(None),
-            Some(0) => return Ok(Some(ListOf::from_slice(alloc, scratch.as_slice())?)),
-            Some(id) => scratch.push(ClauseId(id))?,
+            None => return Ok(false),
+            Some(0) => return Ok(true),
+            Some(id) => ids.push(ClauseId(id))?,
         }
     }
-    Ok(None)
+    Ok(false)
 }
 
-// The literals up to a `0`, in the same way.
-fn read_literals(
-    alloc: Global,
-    tokens: &mut Tokens<'_>,
-    vars: u32,
-    scratch: &mut Vec<Lit>,
-) -> Result<Option<ListOf<Lit>>, Memory>
+// Reads the literals up to a `0`, in the same way.
+fn read_literals(tokens: &mut Tokens<'_>, vars: u32, clause: &mut Vec<Lit>) -> Result<bool, Memory>
     requires { vars ≤ VAR_LIMIT }
-    ensures { IfOk result (λ clause. MatchOption clause (literals_section vars (texts_of tokens.old) ≡ None) (λ clause. literals_section vars (texts_of tokens.old) ≡ Some (clause, texts_of tokens.new))) }
+    ensures { IfOk result (λ read. literals_section vars (texts_of tokens.old) ≡ if_read read (clause.new.items, texts_of tokens.new)) }
 {
-    scratch.clear();
+    clause.clear();
     while let Some(token) = tokens.next_token() {
         match read_entry(token.text, vars) {
-            None => return Ok(None),
-            Some(Entry::End) => return Ok(Some(ListOf::from_slice(alloc, scratch.as_slice())?)),
-            Some(Entry::Literal(lit)) => scratch.push(lit)?,
+            None => return Ok(false),
+            Some(Entry::End) => return Ok(true),
+            Some(Entry::Literal(lit)) => clause.push(lit)?,
         }
     }
-    Ok(None)
+    Ok(false)
 }

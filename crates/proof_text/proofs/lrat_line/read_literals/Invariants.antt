@@ -6,7 +6,7 @@ use Rattle.proof_text.proofs.LineLemmas.{Remains}
 use Rattle.proof_text.proofs.lrat_line.read_literals.Given as goal
 
 abbrev pub invariant-loop-token : goal.invariant-loop-token
-invariant-loop-token l = Remains (is_known_literal l.vars) literal_of (texts_of l.fn.tokens) l.scratch.items (texts_of l.tokens)
+invariant-loop-token l = Remains (is_known_literal l.vars) literal_of (texts_of l.fn.tokens) l.clause.items (texts_of l.tokens)
 
 abbrev pub decreases-loop-token : goal.decreases-loop-token
 decreases-loop-token l = length l.tokens
