@@ -2,7 +2,7 @@
 ghost use Rattle.std.specs.Prelude.{◌≡◌, [], IfOk, OnOk};
 ghost use Rattle.prop_core.specs.Derivation.{clause_numbered};
 ghost use Rattle.proof_ledger.specs.declared.checker.ProofStep.TheVariants as steps;
-ghost use Rattle.proof_ledger.specs.Checking.{holds, after_next, rest_gives};
+ghost use Rattle.proof_ledger.specs.Checking.{IsUnsatisfiable, holds, after_next, check_proof, rest_gives};
 ghost use Rattle.proof_ledger.specs.Checkers.{reached};
 
 use crate::follow::{Outcome, derive_by};
@@ -36,6 +36,20 @@ pub enum Checked {
     /// The step of this line doesn't derive: a hint names no clause that is held (kind 1) or has two or more open literals
     /// (kind 2), or the hints end (kind 3). Or all steps derive and none has the empty clause (line 0, kind 4).
     Rejected { line: u32, kind: u8 },
+}
+
+/// Checks a proof. The axioms are held by their numbers from 1.
+///
+/// Steps after the first with the empty clause aren't looked at.
+pub fn check(alloc: Global, axioms: &Clauses, steps: &[ProofStep]) -> Result<Checked, Memory>
+    ensures checked { IfOk result (λ checked. checked ≡ check_proof axioms.now.clauses steps.now) }
+    ensures sound { IfOk result (λ checked. checked ≡ Checked.Verified → IsUnsatisfiable axioms.now.clauses) }
+{
+    let mut checker = Checker::new(alloc, axioms)?;
+    for step in steps {
+        checker.take(step)?;
+    }
+    Ok(checker.outcome())
 }
 
 /// A checker of a proof. It takes the steps one after another, and looks at none behind one that ends the proof.
@@ -91,6 +105,24 @@ impl<'a> Checker<'a> {
     {
         if self.outcome.is_none() {
             self.held.delete(ids);
+        }
+    }
+
+    // Takes a step.
+    fn take(&mut self, step: &ProofStep) -> Result<(), Memory>
+        ensures { OnOk result (reached self.new ≡ after_next (reached self.old) step.now) }
+    {
+        match step {
+            ProofStep::Add {
+                line,
+                id,
+                clause,
+                hints,
+            } => self.add(*line, *id, clause.as_slice(), hints.as_slice()),
+            ProofStep::Delete { ids } => {
+                self.delete(ids.as_slice());
+                Ok(())
+            }
         }
     }
 

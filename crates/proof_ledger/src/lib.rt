@@ -18,6 +18,6 @@ mod marks;
 mod near;
 mod truths;
 
-pub use checker::{Checked, Checker, ProofStep};
+pub use checker::{Checked, Checker, ProofStep, check};
 pub use entry::{DeriveFault, Entry};
 pub use ledger::Ledger;
