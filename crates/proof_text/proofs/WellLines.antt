@@ -235,9 +235,9 @@ step_is_said line vars last texts step h =
     (parts.1, line_has_no_code vars last texts parts.0)
 
 -- the same of a step by its kind and its parts
-pub kind_is_said : (line vars last : ℕ) (texts : List (List ℕ)) (clause : List Lit) (ids : List ℕ) (kind : Option StepKind) (found it : StepKind) → kind ≡ Some found → found ≡ it → option_map (step_with line clause ids) kind ≡ line_read line vars last texts
-    → (step_with line clause ids it ≡ proof_step_of line (lrat_line texts)) × (lrat_line_code vars last (lrat_line texts) ≡ None)
-kind_is_said line vars last texts clause ids kind found it is same read = step_is_said line vars last texts (step_with line clause ids it) (sym (ap (option_map (step_with line clause ids)) (is ∙ ap Some same)) ∙ read)
+pub kind_is_said : (line vars last : ℕ) (texts : List (List ℕ)) (clause : List Lit) (ids : List ℕ) (kind : Option StepKind) (found : StepKind) → kind ≡ Some found → option_map (step_with line clause ids) kind ≡ line_read line vars last texts
+    → (step_with line clause ids found ≡ proof_step_of line (lrat_line texts)) × (lrat_line_code vars last (lrat_line texts) ≡ None)
+kind_is_said line vars last texts clause ids kind found is read = step_is_said line vars last texts (step_with line clause ids found) (sym (ap (option_map (step_with line clause ids)) is) ∙ read)
 
 some_code : (o : Option ℕ) → (o ≡ None → ⊥) → IsSome o
 some_code None h = absurd (h refl)

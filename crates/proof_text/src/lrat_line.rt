@@ -8,12 +8,23 @@ ghost use Rattle.proof_text.specs.StepParts.{step_with};
 use crate::number::{Entry, read_entry};
 use des_base::{Line, Memory, Tokens, VAR_LIMIT, read_number};
 use prop_core::{ClauseId, Lit};
+use std::alloc::Global;
 
 // The parts of a step: the clause of an addition, and its hints or the numbers of a deletion. Each line is read into the same vectors.
 #[derive(Drop)]
 pub(crate) struct StepParts {
     pub clause: Vec<Lit>,
     pub ids: Vec<ClauseId>,
+}
+
+impl StepParts {
+    // Parts without anything in them.
+    pub(crate) fn new(alloc: Global) -> StepParts {
+        StepParts {
+            clause: Vec::new(alloc),
+            ids: Vec::new(alloc),
+        }
+    }
 }
 
 // What a step does with its parts.

@@ -9,9 +9,9 @@ ghost use Rattle.proof_text.specs.TextFaults.{text_fault_or, IsTextDue};
 ghost use Rattle.proof_text.specs.LratText.{lrat_line_code, lrat_line, proof_step_of, last_after, first_lrat_fault, proof_of};
 
 use crate::cnf::Cnf;
-use crate::fault::{TextRefusal, fault_at};
-use crate::line_faults::lrat_line_code;
-use crate::lrat_line::{StepKind, StepParts, read_step};
+use crate::fault::TextRefusal;
+use crate::line_step::read_line;
+use crate::lrat_line::{StepKind, StepParts};
 use des_base::{Line, Lines, VAR_LIMIT};
 use proof_ledger::{Checked, Checker};
 use std::alloc::Global;
@@ -34,10 +34,7 @@ pub fn check_lrat(alloc: Global, bytes: &[u8], cnf: &Cnf) -> Result<Checked, Tex
     let mut checker = Checker::new(alloc, &cnf.clauses)?;
     let mut lines = Lines::new(bytes, b'c');
     let mut last = cnf.clauses.len();
-    let mut parts = StepParts {
-        clause: Vec::new(alloc),
-        ids: Vec::new(alloc),
-    };
+    let mut parts = StepParts::new(alloc);
     while let Some(line) = lines.next_line() {
         last = take_line(line, cnf.vars, last, &mut parts, &mut checker)?;
     }
@@ -58,15 +55,14 @@ fn take_line(
     ensures well { OnOk result (lrat_line_code vars last (lrat_line (tokens_of line.entry.text.now)) ≡ None) }
     ensures refused { IfErr result (λ refusal. (later : Option TextFault) → IsTextDue (text_fault_or line.entry.number (lrat_line_code vars last (lrat_line (tokens_of line.entry.text.now))) later) refusal) }
 {
-    match read_step(line, vars, last, parts)? {
-        Some(StepKind::Add { id }) => {
+    match read_line(line, vars, last, parts)? {
+        StepKind::Add { id } => {
             checker.add(line.number, id, &parts.clause, &parts.ids)?;
             Ok(id)
         }
-        Some(StepKind::Delete) => {
+        StepKind::Delete => {
             checker.delete(&parts.ids);
             Ok(last)
         }
-        None => Err(fault_at(line.number, lrat_line_code(line, vars, last).unwrap())),
     }
 }
