@@ -9,7 +9,7 @@ use Rattle.log_order.specs.Log.{Log as AlarmLog}
 use Rattle.model_text.specs.ModelFaults.{network_of}
 use Rattle.proof_ledger.specs.Checking.{check_proof}
 use Rattle.proof_ledger.specs.declared.checker.Checked.{Checked}
-use Rattle.proof_text.specs.CnfText.{Formula, formula, formula_of}
+use Rattle.proof_text.specs.CnfText.{Formula, formula}
 use Rattle.proof_text.specs.LratText.{proof_of}
 use Rattle.proof_text.specs.declared.cnf.Cnf.{Cnf}
 use Rattle.replay.specs.RunText.{run_of}

@@ -1,5 +1,5 @@
 -- Files that are read as texts.
-use Rattle.std.proofs.Common.{◌≡◌, ◌≢◌, inr, ℕ, List, length, Option, Some, None, ap, subst, refl}
+use Rattle.std.proofs.Common.{◌≡◌, ◌≢◌, inr, ℕ, List, length, Option, Some, None, ap, refl}
 use Rattle.std.specs.Prelude.{option_map}
 use Rattle.des_net.specs.Network.{Net}
 use Rattle.event_costs.specs.CostText.{IsCostDue, IsTableOf, first_cost_fault}
