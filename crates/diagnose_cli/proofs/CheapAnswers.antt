@@ -1,8 +1,8 @@
 -- What `cheapest` answers where its files are read.
-use Rattle.std.proofs.Common.{◌≢◌, ◌^◌, ◌∙◌, [], ◌∷◌, ap, sym, inr, ◌≤◌, ℕ, List, length, Option, Some, None, arith}
+use Rattle.std.proofs.Common.{◌≢◌, ◌^◌, ◌∙◌, [], ◌∷◌, ap, sym, inr, ◌≤◌, ℕ, List, length, Option, Some, arith}
 use Rattle.cost_least.specs.Answers.{CostAsked, IsCheapFound, IsRunAt}
 use Rattle.answers.specs.declared.cheap.Cheap.{Cheap}
-use Rattle.answers.specs.declared.cheap.Cheap.TheVariants.{Found, Absent, Dear, Undecided}
+use Rattle.answers.specs.declared.cheap.Cheap.TheVariants.{Found, Dear, Undecided}
 use Rattle.des_net.specs.Building.{IsDraft}
 use Rattle.des_net.specs.Network.{Net, IsNetwork}
 use Rattle.event_costs.specs.CostText.{IsTableOf, cost_of}
@@ -51,17 +51,15 @@ module _ (q : CostAsked) where
   module _ (axioms : List Clause) (since : List BookEntry) (budget : ℕ) where
     pub cheap_known : (answer : Cheap) → IsCheapFound q axioms since budget answer → CheapEventsKnown q.net answer
     cheap_known (Found priced) h = run_known q.net (word_of priced.run) h.given.explains.run
-    cheap_known Absent h = tt
     cheap_known (Dear run) h = run_known q.net (word_of run) h.given.explains.run
-    cheap_known (Undecided lo None) h = tt
     cheap_known (Undecided lo (Some priced)) h = run_known q.net (word_of priced.run) h.given.given.explains.run
+    cheap_known _ h = tt
 
     pub cheap_reads_back : (answer : Cheap) → IsNetwork q.net → IsDraft q.net → IsLog q.log → q.steps ≤ 1000 → IsCheapFound q axioms since budget answer → CheapRunReadsBack q.net answer
     cheap_reads_back (Found priced) network drafted logged few h = run_reads_back priced.run priced.cost network drafted logged few h.given
-    cheap_reads_back Absent network drafted logged few h = tt
     cheap_reads_back (Dear run) network drafted logged few h = run_reads_back run h.total network drafted logged few h.given
-    cheap_reads_back (Undecided lo None) network drafted logged few h = tt
     cheap_reads_back (Undecided lo (Some priced)) network drafted logged few h = run_reads_back priced.run priced.cost network drafted logged few h.given.given
+    cheap_reads_back _ network drafted logged few h = tt
 
 -- ---- the costs of the text
 
@@ -80,12 +78,8 @@ says_of_text net prices table alarms n budget book reply of says = record {
 -- a budget that is large enough decides
 module _ (net : Net) (cost : ℕ → ℕ) (alarms : Log) (n budget : ℕ) (book : List BookEntry) where
   none_open : (answer : Cheap) → IsPricedBy net cost alarms n budget book answer → 3 ^ cost_variables net alarms n ≤ budget → kind_of_cheap answer ≢ LeftOpen
-  none_open (Found priced) holds enough is = cc
-  none_open Absent holds enough is = cc
-  none_open (Dear run) holds enough is = cc
-  none_open (Undecided lo best) holds enough is =
-      let small = unpriced_is_small net cost alarms n budget book lo best holds in
-      omega (arith, small, enough)
+  none_open (Undecided lo best) holds enough is = omega (arith, unpriced_is_small net cost alarms n budget book lo best holds, enough)
+  none_open _ holds enough is = cc
 
   cheap_decided : (reply : Reply) → SaysCheap net cost alarms n budget book reply → 3 ^ cost_variables net alarms n ≤ budget → reply.0 ≢ LeftOpen
   cheap_decided reply says enough is = none_open says.answer says.priced enough (sym (ap (λ (r : Reply). r.0) says.is) ∙ is)

@@ -4,7 +4,7 @@ use Rattle.des_net.specs.Building.{IsDraft}
 use Rattle.des_net.specs.Network.{Net, IsNetwork}
 use Rattle.inquiries.specs.Diagnosed.{IsDiagnosed}
 use Rattle.answers.specs.declared.found.Found.{Found}
-use Rattle.answers.specs.declared.found.Found.TheVariants.{Explained, Absent as NotExplained, Many as ManyFaults, Undecided as NotDecided}
+use Rattle.answers.specs.declared.found.Found.TheVariants.{Undecided as NotDecided}
 use Rattle.least_faults.proofs.Deciding.{undecided_is_small}
 use Rattle.log_order.specs.Adding.{IsLog}
 use Rattle.log_order.specs.Log.{Log}
@@ -30,12 +30,10 @@ answers_question net log n budget book found network whole log_whole few diagnos
 module _ (net : Net) (log : Log) (n budget : ℕ) (book : List BookEntry) where
   -- nothing stays open
   pub found_decided : (found : Found) → IsDiagnosed net log n budget book found → 3 ^ variable_bound net log n ≤ budget → kind_of_found found ≢ Undecided
-  found_decided (Explained best) holds enough is = cc
-  found_decided NotExplained holds enough is = cc
-  found_decided (ManyFaults best) holds enough is = cc
   found_decided (NotDecided lo best) holds enough is =
       let small = undecided_is_small holds.meanings (question_built net log n 0) net log n budget lo best (map axiomatic (question_axioms net log n 0)) book holds.answered in
       omega (arith, small, enough)
+  found_decided _ holds enough is = cc
 
   -- the reply that tells what is found
   pub answers_found : (reply : Kind × List ℕ) → SaysFound net log n budget book reply → AnswersTo diagnose_question budget net log n book reply

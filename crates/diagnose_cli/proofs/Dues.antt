@@ -1,8 +1,8 @@
 -- What is due for the words of a command, or for words that call none.
-use Rattle.std.proofs.Common.{◌≡◌, List, ℕ, [], false, IfOk, Result, Ok, Err, refl, subst}
+use Rattle.std.proofs.Common.{◌≡◌, List, ℕ, [], false, IfOk, Result, Ok, Err, refl, sym, subst}
 use Rattle.std.specs.Prelude.{⊤}
 use Rattle.endings.specs.Files.{Loads}
-use Rattle.endings.specs.Transcripts.{Transcript, UnlessMemory, cut_short, once}
+use Rattle.endings.specs.Transcripts.{Ending, Transcript, UnlessMemory, cut_short, once}
 use Rattle.endings.specs.declared.stop.Stop.{Stop}
 use Rattle.endings.specs.declared.stop.Stop.TheVariants.{Usage}
 use Rattle.proof_ledger.specs.Book.{BookEntry}
@@ -12,7 +12,6 @@ use Rattle.diagnose_cli.specs.Rows.{LeftBy}
 use Rattle.diagnose_cli.specs.Run.{AsksNone, CallsNone, LoadsNone}
 use Rattle.diagnose_cli.specs.Tasks.{Called, Calls, IfCalled, MatchCalled, NoCommand, Reply, Task, told_once}
 use Rattle.diagnose_cli.proofs.Ones.{cuts}
-use Rattle.diagnose_cli.proofs.Orders.{usage_due}
 use Rattle.diagnose_cli.proofs.SessionAnswers.{begun_for, due_for, left_for}
 
 -- ---- words that call nothing
@@ -26,7 +25,7 @@ nothing_called words none = by (command_of words) none
 
 module _ (l : Loads) (words : List (List ℕ)) (book : List BookEntry) (none : command_of words ≡ NoCommand) where
   pub usage_is_due : IsDue l words book (Err Usage)
-  usage_is_due = record { due = λ never. usage_due l words book none; cut = tt; begun = begun_for words NoCommand book none tt }
+  usage_is_due = record { due = λ never. subst (λ (k : Called). MatchCalled k (◌≡◌ {A = Ending} (Err Usage) (Err Usage)) (λ t. MayAnswer l words t book (Err Usage))) (sym none) refl; cut = tt; begun = begun_for words NoCommand book none tt }
 
   pub usage_left : LeftBy l.held words book
   usage_left = left_for l.held words NoCommand book none tt

@@ -1,10 +1,9 @@
 mod Orders
 mod Called
 mod Vectors
-mod FailedLoads
+mod EarlyStops
 mod Exact
 mod Answered
-mod UsageRows
 mod StatusRows
 mod StopStatus
 mod TwinBooks

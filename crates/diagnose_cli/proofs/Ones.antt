@@ -1,16 +1,14 @@
 -- A command that has one reply, which is put whole or cut short.
-use Rattle.std.proofs.Common.{◌≢◌, ◌≡◌, inl, inr, ℕ, ◌+◌, List, [], ◌∷◌, ◌++◌, Option, Some, None, Ok, Err, MatchOption, refl}
+use Rattle.std.proofs.Common.{◌≢◌, ◌≡◌, inl, inr, ℕ, List, [], Option, Some, None, Ok, Err, MatchOption, refl}
 use Rattle.proof_ledger.specs.Book.{BookEntry}
 use Rattle.endings.specs.declared.ending.Kind.{Kind}
 use Rattle.endings.specs.declared.ending.Kind.TheVariants.{Undecided}
 use Rattle.endings.specs.declared.stop.Stop.{Stop}
-use Rattle.endings.specs.declared.stop.Stop.TheVariants.{Faulty}
-use Rattle.endings.specs.declared.stop.FaultyText.{FaultyText}
 use Rattle.diagnose_cli.specs.Tasks.{Reply, Task, told_once}
-use Rattle.diagnose_cli.specs.Due.{MayAnswer, Closes, InOrder, Says, halts}
+use Rattle.diagnose_cli.specs.Due.{MayAnswer, Closes, Says, halts}
 use Rattle.endings.specs.Files.{Loads}
-use Rattle.endings.specs.Texts.{FileKind, fault_of_text}
 use Rattle.endings.specs.Transcripts.{End, said, Ending, IsOne, Transcript, cut_short, whole}
+use Rattle.diagnose_cli.proofs.FilesInOrder.{all_read, in_order}
 
 pub is_one : (P : (Kind × List ℕ) → Type 0) (reply : Kind × List ℕ) → P reply → IsOne P (whole reply)
 is_one P reply says = record { reply = reply; says = says; alone = refl; ends = refl }
@@ -29,33 +27,17 @@ may_say t words book files reply says decided = record { says = is_one (t.says w
     same : (kind : Kind) → ◌≡◌ {A = End} (said kind) (said Undecided) → kind ≡ Undecided
     same kind is = cc
 
--- ---- over its files, where one transcript takes the place of another
-
-past_text : (o : Option FaultyText) (t u : Transcript) (P Q : Type 0) → (P → Q) → MatchOption o P (λ text. ◌≡◌ {A = Ending} (Ok t) (Err (Faulty text))) → MatchOption o Q (λ text. ◌≡◌ {A = Ending} (Ok u) (Err (Faulty text)))
-past_text None t u P Q f h = f h
-past_text (Some text) t u P Q f h = cc
-
+-- so it may be in place of that over its files
 past_stop : (o : Option Stop) (t u : Transcript) (P Q : Type 0) → (P → Q) → MatchOption o P (λ stop. ◌≡◌ {A = Ending} (Ok t) (Err stop)) → MatchOption o Q (λ stop. ◌≡◌ {A = Ending} (Ok u) (Err stop))
 past_stop None t u P Q f h = f h
 past_stop (Some stop) t u P Q f h = cc
 
-in_place : (l : Loads) (words : List (List ℕ)) (i : ℕ) (kinds : List FileKind) (files : List (List ℕ)) (closes : List (List ℕ) → Ending → Type 0) (t u : Transcript) → ((texts : List (List ℕ)) → closes texts (Ok t) → closes texts (Ok u))
-    → InOrder l words i kinds files closes (Ok t) → InOrder l words i kinds files closes (Ok u)
-in_place l words i [] files closes t u f h = f files h
-in_place l words i (kind ∷ kinds) files closes t u f h =
-    elim h [
-      | inl s ↦ absurd s
-      | inr b ↦
-          inr (
-            b.0,
-            b.1,
-            past_text (fault_of_text kind files b.0) t u (InOrder l words (i + 1) kinds (files ++ b.0 ∷ []) closes (Ok t)) (InOrder l words (i + 1) kinds (files ++ b.0 ∷ []) closes (Ok u))
-                (in_place l words (i + 1) kinds (files ++ b.0 ∷ []) closes t u f) b.2,
-          )
-    ]
-
--- so a command with one reply, where it may answer that
 pub cuts : (l : Loads) (words : List (List ℕ)) (t : Task Reply) (book : List BookEntry) (reply : Reply) → MayAnswer l words (told_once t) book (Ok (whole reply)) → MayAnswer l words (told_once t) book (Ok (cut_short reply))
 cuts l words t book reply h =
-    in_place l words 1 t.files [] (Closes (told_once t) words book) (whole reply) (cut_short reply)
-    (λ texts. past_stop (halts (told_once t) words texts) (whole reply) (cut_short reply) (Says (told_once t) words book texts (whole reply)) (Says (told_once t) words book texts (cut_short reply)) (cut_says t words book texts reply)) h
+    let closes = Closes (told_once t) words book in
+    elim (in_order l words closes (Ok (whole reply)) 1 t.files [] h) [
+      | inl at ↦ absurd at
+      | inr over ↦
+          all_read l words closes 1 t.files [] over.texts (Ok (cut_short reply)) over.bytes
+          (past_stop (halts (told_once t) words over.texts) (whole reply) (cut_short reply) (Says (told_once t) words book over.texts (whole reply)) (Says (told_once t) words book over.texts (cut_short reply)) (cut_says t words book over.texts reply) over.closed)
+    ]

@@ -1,11 +1,11 @@
 -- The reply that tells what is found replays.
-use Rattle.std.proofs.Common.{◌≡◌, ◌≤◌, ◌*◌, ℕ, List, length, Some, None, arith, sym, subst}
+use Rattle.std.proofs.Common.{◌≡◌, ◌≤◌, ◌*◌, ℕ, List, length, Some, arith, sym, subst}
 use Rattle.std.proofs.lemmas.Nat.{mul-le}
 use Rattle.des_net.specs.Building.{IsDraft}
 use Rattle.des_net.specs.Network.{Net, IsNetwork}
 use Rattle.answers.specs.declared.found.Best.{Best}
 use Rattle.answers.specs.declared.found.Found.{Found}
-use Rattle.answers.specs.declared.found.Found.TheVariants.{Explained, Absent, Many, Undecided}
+use Rattle.answers.specs.declared.found.Found.TheVariants.{Explained, Many, Undecided}
 use Rattle.answers.specs.Explanations.{IsExplanation}
 use Rattle.least_faults.specs.Answers.{IsFound}
 use Rattle.least_faults.proofs.KnownEvents.{run_known}
@@ -51,14 +51,13 @@ module _ (names : List (ℕ × Meaning)) (first : BuiltQuestion) (since : List B
   found_replays (Explained best) network whole log_whole few h =
       let fine = printable_run net log n best network whole log_whole few h.given in
       replays net log n best (text_of_found net n (Explained best)) h.given (replies_read_back net n (Explained best) whole fine) (replies_fit net n (Explained best) whole fine)
-  found_replays Absent network whole log_whole few h = tt
   found_replays (Many best) network whole log_whole few h =
       let fine = printable_run net log n best network whole log_whole few h.given in
       replays net log n best (text_of_found net n (Many best)) h.given (replies_read_back net n (Many best) whole fine) (replies_fit net n (Many best) whole fine)
-  found_replays (Undecided lo None) network whole log_whole few h = tt
   found_replays (Undecided lo (Some best)) network whole log_whole few h =
       let fine = printable_run net log n best network whole log_whole few h.given.0 in
       replays net log n best (text_of_found net n (Undecided lo (Some best))) h.given.0 (replies_read_back net n (Undecided lo (Some best)) whole fine) (replies_fit net n (Undecided lo (Some best)) whole fine)
+  found_replays _ network whole log_whole few h = tt
 
   -- where the question was asked within as many steps
   pub run_replays : (found : Found) (steps : ℕ) → IsNetwork net → IsDraft net → IsLog log → steps ≤ 1000 → steps ≡ n → IsFound names first since net log n budget found → RunReplays net log steps found

@@ -16,7 +16,7 @@ use Rattle.diagnose_cli.specs.Due.{MayAnswer, Closes, Due, EndsBySize, HasNotBeg
 use Rattle.endings.specs.Files.{Loads}
 use Rattle.endings.specs.Puts.{Finishes, Speaks}
 use Rattle.diagnose_cli.specs.Run.{SaysStop}
-use Rattle.diagnose_cli.specs.Sessions.{status_of_session}
+use Rattle.diagnose_cli.specs.Outcomes.{status_of_telling}
 use Rattle.endings.specs.Transcripts.{Ending, OrMemory, Transcript, UnlessMemory, once}
 use Rattle.diagnose_cli.proofs.Limits.{ends_weaker, ends_within}
 use Rattle.telling.specs.Telling.{RisesExactlyIf}
@@ -25,7 +25,7 @@ use Rattle.telling.proofs.Taking.{nothing_taken}
 use Rattle.endings.proofs.Once.{wants_memory}
 use Rattle.endings.proofs.Speaking.{put_speaks}
 use Rattle.diagnose_cli.proofs.FilesInOrder.{all_read, stops_among}
-use Rattle.diagnose_cli.proofs.StopStatus.{between}
+use Rattle.diagnose_cli.proofs.StopStatus.{between, is_stop, low_stop, reply_status}
 
 -- ---- by its status
 
@@ -33,11 +33,18 @@ use Rattle.diagnose_cli.proofs.StopStatus.{between}
 pub broke_before : (due : Ending → Type 0) (lost : Type 0) → lost → (taken : Output) (rose : Type 0) → Speaks due lost taken taken rose 9
 broke_before due lost q taken rose = put_speaks due lost taken taken rose 9 (λ four. omega (arith, four)) (wants_memory due lost q taken taken 9 refl (nothing_taken taken))
 
--- a put failed where the status is 4
-pub session_fails : (r : Result (Unit {0}) Broken) (status : ℕ) (before now : Option ℕ) → status ≡ status_of_session r → RisesExactlyIf (IsErrOf r Put) before now → RisesExactlyIf (status ≡ 4) before now
-session_fails (Ok done) status before now is h = fails_alike _ _ before now (λ put. cc) (λ four. absurd (omega (arith, is, four))) h
-session_fails (Err Memory) status before now is h = fails_alike _ _ before now (λ put. cc) (λ four. absurd (omega (arith, is, four))) h
-session_fails (Err Put) status before now is h = fails_alike _ _ before now (λ put. is) (λ four. refl) h
+module _ {T : Type 0} (kind : T → Kind) where
+  -- no stop has the status of telling,
+  pub tells_no_stop : (r : Result T Broken) (status : ℕ) → status ≡ status_of_telling kind r → SaysStop status → ⊥
+  tells_no_stop (Ok told) status is stop = reply_status status (kind told) is (is_stop status stop)
+  tells_no_stop (Err Memory) status is stop = between status stop (omega (arith, is)) (omega (arith, is))
+  tells_no_stop (Err Put) status is stop = stop.put is
+
+  -- and a put failed where it is 4
+  pub fails_by : (r : Result T Broken) (status : ℕ) (before now : Option ℕ) → status ≡ status_of_telling kind r → RisesExactlyIf (IsErrOf r Put) before now → RisesExactlyIf (status ≡ 4) before now
+  fails_by (Ok told) status before now is h = fails_alike _ _ before now (λ put. cc) (λ four. absurd (reply_status status (kind told) is (low_stop status (omega (arith, four)) (omega (arith, four))))) h
+  fails_by (Err Memory) status before now is h = fails_alike _ _ before now (λ put. cc) (λ four. absurd (omega (arith, is, four))) h
+  fails_by (Err Put) status before now is h = fails_alike _ _ before now (λ put. is) (λ four. refl) h
 
 -- what holds of each ending that may come holds of it
 module _ (may due : Ending → Type 0) (weaker : (e : Ending) → may e → due e) (P Q : Type 0) (lost : P → Q) (before now : Output) where
@@ -53,12 +60,6 @@ module _ (may due : Ending → Type 0) (weaker : (e : Ending) → may e → due 
     put_failed = h.put_failed;
     cut_off = λ four. let c = h.cut_off four in record { ending = c.ending; due = weaker c.ending c.due; told_cut = c.told_cut; stops = c.stops; put = c.put };
   }
-
--- no stop has the status of a session
-pub no_stop : (r : Result (Unit {0}) Broken) (status : ℕ) → status ≡ status_of_session r → SaysStop status → ⊥
-no_stop (Ok done) status is stop = absurd (omega (arith, is, stop.low))
-no_stop (Err Memory) status is stop = absurd (between status stop (omega (arith, is)) (omega (arith, is)))
-no_stop (Err Put) status is stop = absurd (stop.put is)
 
 -- ---- several replies to a question of this size
 

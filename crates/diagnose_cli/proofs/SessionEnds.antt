@@ -11,7 +11,7 @@ use Rattle.diagnose_cli.specs.declared.session_rows.Plan.{Plan}
 use Rattle.endings.specs.Puts.{Speaks}
 use Rattle.diagnose_cli.specs.SessionReplies.{SessionComesTo, EndsSession, HasReplies, IsRowReplied, IsUntold}
 use Rattle.diagnose_cli.specs.Sessions.{MaySay, RowIsUntold, RowTells, status_of_session}
-use Rattle.endings.specs.Transcripts.{said, cut, broken}
+use Rattle.endings.specs.Transcripts.{Ending, said, cut, broken}
 use Rattle.diagnose_cli.proofs.SessionFronts.{nothing_replied, row_replied, rows_told}
 use Rattle.endings.proofs.Speaking.{speaks_broken, speaks_cut, speaks_said}
 
@@ -57,15 +57,11 @@ module _ {S : Type 0} (plan : S → Plan) (stage : S → Stage) (s : S) (rows : 
         are = h.are;
       }
 
-  -- so it speaks as a session may
-  by_end : (before now : Output) (rose : Type 0) (r : Result (Unit {0}) Broken) → EachGoes (RowTells plan stage) (RowIsUntold plan stage) s rows t before now rose r
-      → Speaks (MaySay (plan s).net (plan s).limits.steps (plan s).limits.budget rows (stage t).book) ((stage t).book ≡ []) before now rose (status_of_session r)
-  by_end before now rose (Ok done) goes = speaks_said (MaySay (plan s).net (plan s).limits.steps (plan s).limits.budget rows (stage t).book) ((stage t).book ≡ []) before now rose goes.texts Done (finished goes.texts goes.says) goes.put
-  by_end before now rose (Err Memory) goes = speaks_broken (MaySay (plan s).net (plan s).limits.steps (plan s).limits.budget rows (stage t).book) ((stage t).book ≡ []) before now rose goes.texts (broken_off goes.texts goes.says) goes.put
-  by_end before now rose (Err Put) goes = speaks_cut (MaySay (plan s).net (plan s).limits.steps (plan s).limits.budget rows (stage t).book) ((stage t).book ≡ []) before now rose goes.texts (cut_off goes.texts goes.says) goes.put.0 goes.put.1
+  abbrev may : Ending → Type 0
+  may = MaySay (plan s).net (plan s).limits.steps (plan s).limits.budget rows (stage t).book
 
--- what is told and put of all rows is what a session may say
-pub rows_speak : {S : Type 0} (t : S) (plan : S → Plan) (stage : S → Stage) (s : S) (rows : List Row) (before now : Output) (rose : Type 0) (r : Result (Unit {0}) Broken) → EachGoes (RowTells plan stage) (RowIsUntold plan stage) s rows t before now rose r
-    → stage s ≡ first_stage (plan s).net (plan s).limits.steps → IsSessionBook (plan s).net (plan s).limits.steps (stage s)
-    → Speaks (MaySay (plan s).net (plan s).limits.steps (plan s).limits.budget rows (stage t).book) ((stage t).book ≡ []) before now rose (status_of_session r)
-rows_speak t plan stage s rows before now rose r goes begins asks = by_end plan stage s rows t begins asks before now rose r goes
+  -- so it speaks as a session may
+  pub rows_speak : (before now : Output) (rose : Type 0) (r : Result (Unit {0}) Broken) → EachGoes (RowTells plan stage) (RowIsUntold plan stage) s rows t before now rose r → Speaks may ((stage t).book ≡ []) before now rose (status_of_session r)
+  rows_speak before now rose (Ok done) goes = speaks_said may ((stage t).book ≡ []) before now rose goes.texts Done (finished goes.texts goes.says) goes.put
+  rows_speak before now rose (Err Memory) goes = speaks_broken may ((stage t).book ≡ []) before now rose goes.texts (broken_off goes.texts goes.says) goes.put
+  rows_speak before now rose (Err Put) goes = speaks_cut may ((stage t).book ≡ []) before now rose goes.texts (cut_off goes.texts goes.says) goes.put.0 goes.put.1

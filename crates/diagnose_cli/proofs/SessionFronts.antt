@@ -7,13 +7,13 @@ use Rattle.alarm_session.proofs.Rowing.{carried_out_more, nothing_carried_out}
 use Rattle.alarm_session.specs.Rows.{AreRowsTold, IsLeftUndone, IsRowTold, after_row}
 use Rattle.alarm_session.specs.Session.{IsSessionBook, Stage, first_stage}
 use Rattle.alarm_session.specs.declared.rows.RowTold.{RowTold}
-use Rattle.alarm_session.specs.declared.rows.RowTold.TheVariants.{Made, Refused, Answered}
+use Rattle.alarm_session.specs.declared.rows.RowTold.TheVariants.{Made, Answered}
 use Rattle.des_net.specs.Building.{IsDraft}
 use Rattle.des_net.specs.Network.{Net, IsNetwork}
 use Rattle.least_faults.proofs.Deciding.{undecided_is_small}
 use Rattle.least_faults.specs.Answers.{IsAnswered}
 use Rattle.answers.specs.declared.found.Found.{Found}
-use Rattle.answers.specs.declared.found.Found.TheVariants.{Explained, Absent, Many, Undecided}
+use Rattle.answers.specs.declared.found.Found.TheVariants.{Undecided}
 use Rattle.log_csv.specs.declared.row.Row.{Row}
 use Rattle.log_order.specs.Adding.{IsLog}
 use Rattle.log_order.specs.Log.{Log}
@@ -36,17 +36,15 @@ same_setting P other net time n same same_time h = subst (λ (k : ℕ). P net k)
 
 module _ (net : Net) (n budget : ℕ) (old : Stage) (row : Row) (new : Stage) where
   pub row_known : (told : RowTold) → IsRowTold net n budget old row new told → TellsKnown net told
-  row_known Made is = tt
-  row_known (Refused refusal) is = tt
   row_known (Answered found) is = let answered = is.tells.told.answered in known is.tells.told.meanings _ answered.since net old.log n budget found answered.found
+  row_known _ is = tt
 
   row_replays : (told : RowTold) → IsNetwork net → IsDraft net → IsLog new.log → n ≤ 1000 → IsRowTold net n budget old row new told → TellsReplaying net old.log n told
-  row_replays Made network whole log_whole few told = tt
-  row_replays (Refused refusal) network whole log_whole few told = tt
   row_replays (Answered found) network whole log_whole few told =
       let answered = told.tells.told.answered in
       let same : new.log ≡ old.log = told.log ∙ ap (after_row net n old.log) told.tells.question in
       run_replays told.tells.told.meanings _ answered.since net old.log n budget found n network whole (subst IsLog same log_whole) few refl answered.found
+  row_replays _ network whole log_whole few told = tt
 
   pub carried : (told : RowTold) → IsNetwork net → IsDraft net → IsLog new.log → n ≤ 1000 → IsRowTold net n budget old row new told → IsCarriedOut net n budget old row new told
   carried told network whole log_whole few holds = record { holds = holds; replays = row_replays told network whole log_whole few holds }
@@ -57,24 +55,18 @@ module _ (net : Net) (n budget : ℕ) (old : Stage) (row : Row) (new : Stage) wh
   -- what is no addition that was made has a reply
   pub has_reply : (told : RowTold) → told ≢ Made → (reply : List ℕ) × (replies_to net n told ≡ reply ∷ [])
   has_reply Made other = absurd (other refl)
-  has_reply (Refused refusal) other = (_, refl)
-  has_reply (Answered found) other = (_, refl)
+  has_reply _ other = (_, refl)
 
 -- ---- what a budget decides
 
 module _ (net : Net) (n budget : ℕ) where
   found_decided : (found : Found) (names : List (ℕ × Meaning)) (built : BuiltQuestion) (alarms : Log) (before after : List BookEntry) → IsAnswered names built net alarms n budget before after found → 3 ^ variable_bound net alarms n ≤ budget → IsDecided found
-  found_decided (Explained best) names built alarms before after answered enough = tt
-  found_decided Absent names built alarms before after answered enough = tt
-  found_decided (Many best) names built alarms before after answered enough = tt
-  found_decided (Undecided lo best) names built alarms before after answered enough =
-      let small = undecided_is_small names built net alarms n budget lo best before after answered in
-      omega (arith, small, enough)
+  found_decided (Undecided lo best) names built alarms before after answered enough = omega (arith, undecided_is_small names built net alarms n budget lo best before after answered, enough)
+  found_decided _ names built alarms before after answered enough = tt
 
   row_decided : (old : Stage) (row : Row) (new : Stage) (told : RowTold) → IsRowTold net n budget old row new told → TellsDecided net old.log n budget told
-  row_decided old row new Made is = tt
-  row_decided old row new (Refused refusal) is = tt
   row_decided old row new (Answered found) is = found_decided found is.tells.told.meanings old.built old.log old.book new.book is.tells.told.answered
+  row_decided old row new _ is = tt
 
   all_decided : (old : Stage) (rows : List Row) (new : Stage) (told : List RowTold) → AreRowsTold net n budget old rows new told → AreDecided net n budget old.log rows told
   all_decided old [] new told are = tt
@@ -124,23 +116,23 @@ module _ {S : Type 0} (plan : S → Plan) (stage : S → Stage) where
   abbrev Replied : Plan → List Row → Stage → List (List ℕ) → Type 0
   Replied p rows left texts = HasReplies p.net p.limits.steps p.limits.budget rows left texts
 
+  moved : (p : Plan) {rows others : List Row} {left end : Stage} {texts told : List (List ℕ)} → rows ≡ others → left ≡ end → texts ≡ told → Replied p rows left texts → Replied p others end told
+  moved p {others = others} {left = left} {end = end} {texts = texts} same_rows same_left same_texts h =
+      subst (Replied p others end) same_texts (subst (λ (s : Stage). Replied p others s texts) same_left (subst (λ (rs : List Row). Replied p rs left texts) same_rows h))
+
   pub rows_told : (s : S) (front rows : List Row) (t : S) (before texts : List (List ℕ)) → Replied (plan s) front (stage s) before → TellsEach (RowTells plan stage) s rows t texts
       → (plan t ≡ plan s) × Replied (plan s) (front ++ rows) (stage t) (before ++ texts)
   rows_told s front [] t before texts so_far told = (
     ap plan told.0,
-    subst (λ (x : S). Replied (plan s) (front ++ []) (stage x) (before ++ texts)) (sym told.0)
-        (subst (λ (ts : List (List ℕ)). Replied (plan s) (front ++ []) (stage s) (before ++ ts)) (sym told.1)
-        (subst (λ (ts : List (List ℕ)). Replied (plan s) (front ++ []) (stage s) ts) (sym (append-nil before)) (subst (λ (rs : List Row). Replied (plan s) rs (stage s) before) (sym (append-nil front)) so_far))),
+    moved (plan s) (sym (append-nil front)) (ap stage (sym told.0)) (sym (ap (λ (ts : List (List ℕ)). before ++ ts) told.1 ∙ append-nil before)) so_far,
   )
   rows_told s front (row ∷ rows) t before texts so_far (mid, text, rest, here, further, are) =
       let p = plan s in
       let more = replied_more p.net p.limits.steps p.limits.budget front row (stage s) (stage mid) before here.told so_far here.carried in
-      let by_text = subst (λ (ts : List (List ℕ)). Replied p (front ++ row ∷ []) (stage mid) (before ++ ts)) here.is more in
+      let by_text = moved p refl refl (ap (λ (ts : List (List ℕ)). before ++ ts) here.is) more in
       let others = rows_told mid (front ++ row ∷ []) rows t (before ++ option_to_list text) rest (subst (λ (q : Plan). Replied q (front ++ row ∷ []) (stage mid) (before ++ option_to_list text)) (sym here.same) by_text) further in
       let of_plan = subst (λ (q : Plan). Replied q ((front ++ row ∷ []) ++ rows) (stage t) ((before ++ option_to_list text) ++ rest)) here.same others.1 in
-      let of_rows = subst (λ (rs : List Row). Replied p rs (stage t) ((before ++ option_to_list text) ++ rest)) (append_assoc front (row ∷ []) rows) of_plan in
-      let of_texts = subst (λ (ts : List (List ℕ)). Replied p (front ++ row ∷ rows) (stage t) ts) (append_assoc before (option_to_list text) rest ∙ ap (λ (ts : List (List ℕ)). before ++ ts) (sym are)) of_rows in
-      (others.0 ∙ here.same, of_texts)
+      (others.0 ∙ here.same, moved p (append_assoc front (row ∷ []) rows) refl (append_assoc before (option_to_list text) rest ∙ ap (λ (ts : List (List ℕ)). before ++ ts) (sym are)) of_plan)
 
 -- ---- one row of a plan
 

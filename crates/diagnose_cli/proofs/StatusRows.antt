@@ -1,5 +1,5 @@
 -- What the status of an answer tells.
-use Rattle.std.proofs.Common.{◌≡◌, ℕ, List, [], ◌∷◌, Some, refl, sym, ◌∙◌, subst, arith}
+use Rattle.std.proofs.Common.{◌≡◌, ◌≢◌, ◌∙◌, ℕ, List, [], ◌∷◌, Some, refl, sym, subst, arith}
 use Rattle.des_base.specs.CommandWords.{word_at}
 use Rattle.des_base.specs.Outside.{Took}
 use Rattle.des_net.specs.Network.{Net}
@@ -21,18 +21,22 @@ use Rattle.replay.specs.Explanation.{IsAbsent}
 use Rattle.report.specs.Replies.{text_of_found}
 use Rattle.run_decode.specs.QuestionAxioms.{question_axioms}
 use Rattle.endings.specs.declared.ending.Kind.{Kind}
-use Rattle.endings.specs.declared.ending.Kind.TheVariants.{Done, Rejected, Absent as NoneThere, Undecided as LeftOpen, Many as TooMany, Nothing, Ambiguous}
+use Rattle.endings.specs.declared.ending.Kind.TheVariants.{Done, Absent as NoneThere, Undecided as LeftOpen, Many as TooMany}
 use Rattle.endings.specs.Endings.{status_of_kind}
-use Rattle.inquiries.specs.Diagnosed.{IsDiagnosed}
-use Rattle.diagnose_cli.specs.Tasks.{one, told_once}
+use Rattle.endings.specs.Texts.{cnf, lrat}
 use Rattle.diagnose_cli.specs.Commands.{asking, check}
-use Rattle.diagnose_cli.proofs.Called.{called_so}
-use Rattle.diagnose_cli.specs.Questions.{diagnose_question, AnswersTo}
-use Rattle.diagnose_cli.specs.Replies.{kind_of_found, reply_of_checked, AnswersQuestion, IsEnough, SaysFound}
+use Rattle.diagnose_cli.specs.FilesRead.{AreBytes}
 use Rattle.diagnose_cli.specs.Outcomes.{Outcome, ShowsReply}
-use Rattle.diagnose_cli.specs.Rows.{CallsDiagnose, CallsWith, TellsLeast, TellsMany, TellsUndecided}
+use Rattle.diagnose_cli.specs.Questions.{diagnose_question}
+use Rattle.diagnose_cli.specs.Replies.{AnswersQuestion, SaysFound, kind_of_found, reply_of_checked}
+use Rattle.diagnose_cli.specs.Rows.{CallsDiagnose, CheckRows, DiagnoseRows, TellsLeast, TellsMany, TellsUndecided}
 use Rattle.diagnose_cli.specs.Run.{Ends}
-use Rattle.diagnose_cli.proofs.Answered.{AreHeld, IsStopStatus, between, reply_over, reply_told, same_text, told_over}
+use Rattle.diagnose_cli.specs.Tasks.{Task, Reply, one, told_once}
+use Rattle.diagnose_cli.proofs.Answered.{Shown, reply_over, reply_said, row, shown_by, told_over}
+use Rattle.diagnose_cli.proofs.Called.{called_so}
+use Rattle.diagnose_cli.proofs.Deciding.{decided}
+use Rattle.diagnose_cli.proofs.FilesInOrder.{same_text}
+use Rattle.diagnose_cli.proofs.StopStatus.{not_low, reply_status}
 
 -- ---- a proof that is verified
 
@@ -41,123 +45,77 @@ yes : (axioms : List Clause) (steps : List ProofStep) (checked : Checked) → ch
 yes axioms steps Verified is status = verified_refutes axioms steps is
 yes axioms steps (Rejected line kind) is status = absurd (omega arith)
 
-of_checked : (o : Outcome) (formula : List ℕ) (texts : List (List ℕ)) → o.loads.held (word_at o.words 1) ≡ Some formula → o.status ≡ 0 → AreHeld o.loads.held o.words 1 texts → ShowsReply o ((check.task tt).says o.words o.book texts)
+abbrev checking : Task Reply
+checking = check.task tt
+
+of_checked : (o : Outcome) (formula : List ℕ) (texts : List (List ℕ)) → o.loads.held (word_at o.words 1) ≡ Some formula → o.status ≡ 0 → AreBytes o.loads.held o.words 1 (cnf ∷ lrat ∷ []) [] texts → ShowsReply o (checking.says o.words o.book texts)
     → IsUnsatisfiable (formula_of formula).clauses
-of_checked o formula [] there zero held tells = absurd tells.says
-of_checked o formula (text ∷ []) there zero held tells = absurd tells.says
-of_checked o formula (text ∷ proof ∷ []) there zero held tells =
+of_checked o formula (text ∷ proof ∷ []) there zero bytes tells =
     let checked = check_proof (formula_of text).clauses (proof_of proof) in
-    let status : 0 ≡ status_of_kind (reply_of_checked checked).0 = subst (λ (r : Kind × List ℕ). 0 ≡ status_of_kind r.0) tells.says (sym zero ∙ tells.shown) in
-    subst (λ (f : List ℕ). IsUnsatisfiable (formula_of f).clauses) (sym (same_text (o.loads.held (word_at o.words 1)) formula text there held.0)) (yes (formula_of text).clauses (proof_of proof) checked refl status)
-of_checked o formula (text ∷ proof ∷ other ∷ texts) there zero held tells = absurd tells.says
+    let status : 0 ≡ status_of_kind (reply_of_checked checked).0 = subst (λ (r : Reply). 0 ≡ status_of_kind r.0) tells.says (sym zero ∙ tells.shown) in
+    subst (λ (f : List ℕ). IsUnsatisfiable (formula_of f).clauses) (sym (same_text (o.loads.held (word_at o.words 1)) formula text there bytes.0.holds.told)) (yes (formula_of text).clauses (proof_of proof) checked refl status)
+of_checked o formula _ there zero bytes tells = absurd tells.says
 
-pub refuted : (o : Outcome) → Ends o → (formula : List ℕ) → CallsWith o (one check) tt (formula ∷ []) → o.status ≡ 0 → IsUnsatisfiable (formula_of formula).clauses
-refuted o ends formula asks zero =
-    let over = told_over o (told_once (check.task tt)) ends (called_so (one check) o.words refl tt asks.called) (λ stop. omega (arith, zero, stop.low)) in
-    of_checked o formula over.texts asks.told.0 zero over.held (reply_told o (check.task tt) over (λ stop. omega (arith, zero, stop.low)))
+pub check_rows : (o : Outcome) → (o.status ≢ 4 → Ends o) → CheckRows o
+check_rows o ends = record {
+  checked = λ formula proof. row o ends check refl tt (formula ∷ proof ∷ []);
+  refuted = λ formula asks zero.
+      let answers = reply_status o.status Done zero in
+      let over = told_over o (told_once checking) ends (called_so (one check) o.words refl tt asks.called) answers in
+      of_checked o formula over.texts asks.told.0 zero over.bytes (reply_said o checking over.texts (not_low o.status 4 (omega arith) (omega arith) answers) over.said);
+}
 
--- ---- what is found of it
+-- ---- what is found of a question
 
-record TellsFound (o : Outcome) (net : Net) (alarms : Log) (n budget : ℕ) : Type 0 where
-  found : Found
-  holds : AnswersQuestion net alarms n budget o.book found
-  shown : o.status ≡ status_of_kind (kind_of_found found)
-  put : Took o.before o.now (text_of_found net n found ∷ [])
+module _ (o : Outcome) (net : Net) (alarms : Log) (steps budget : ℕ) where
+  abbrev Holds : Found → Type 0
+  Holds found = AnswersQuestion net alarms steps budget o.book found
 
-of_reply : (o : Outcome) (net : Net) (alarms : Log) (steps budget : ℕ) → ShowsReply o (AnswersTo diagnose_question budget net alarms steps o.book) → TellsFound o net alarms steps budget
-of_reply o net alarms steps budget tells =
-    let said : SaysFound net alarms steps budget o.book tells.reply = tells.says.says in
-    record {
-      found = said.found;
-      holds = said.holds;
-      shown = subst (λ (r : Kind × List ℕ). o.status ≡ status_of_kind r.0) said.is tells.shown;
-      put = subst (λ (r : Kind × List ℕ). Took o.before o.now (r.1 ∷ [])) said.is tells.put;
-    }
+  abbrev Put : Found → Type 0
+  Put found = Took o.before o.now (text_of_found net steps found ∷ [])
 
-answer_told : (o : Outcome) (steps budget : ℕ) (text alarms : List ℕ) → Ends o → CallsDiagnose o steps budget text alarms → (IsStopStatus o.status → ⊥) → ShowsReply o (AnswersTo diagnose_question budget (network_of text) (log_of alarms) steps o.book)
-answer_told o steps budget text alarms ends asks answers = reply_over o (asking diagnose_question) refl (steps, budget) (text ∷ alarms ∷ []) ends asks refl answers
+  least_of : (found : Found) → 0 ≡ status_of_kind (kind_of_found found) → Holds found → Put found → TellsLeast o net alarms steps
+  least_of (Explained best) is holds put = let h = holds.diagnosed.answered.found in record { best = best; given = h.given; least = h.least; put = put }
+  least_of _ is holds put = absurd (omega arith)
 
-found_told : (o : Outcome) (steps budget : ℕ) (text alarms : List ℕ) → Ends o → CallsDiagnose o steps budget text alarms → (IsStopStatus o.status → ⊥) → TellsFound o (network_of text) (log_of alarms) steps budget
-found_told o steps budget text alarms ends asks answers = of_reply o (network_of text) (log_of alarms) steps budget (answer_told o steps budget text alarms ends asks answers)
+  absent_of : (found : Found) → 10 ≡ status_of_kind (kind_of_found found) → Holds found → IsAbsent net alarms steps
+  absent_of Absent is holds = holds.diagnosed.answered.found.absent
+  absent_of _ is holds = absurd (omega arith)
 
--- ---- by the status
+  many_of : (found : Found) → 12 ≡ status_of_kind (kind_of_found found) → Holds found → Put found → TellsMany o net alarms steps
+  many_of (Many best) is holds put = let h = holds.diagnosed.answered.found in record { best = best; given = h.given; many = h.many; put = put }
+  many_of _ is holds put = absurd (omega arith)
 
-least_of : (o : Outcome) (net : Net) (alarms : Log) (steps budget : ℕ) (found : Found) → 0 ≡ status_of_kind (kind_of_found found) → IsDiagnosed net alarms steps budget o.book found
-    → Took o.before o.now (text_of_found net steps found ∷ []) → TellsLeast o net alarms steps
-least_of o net alarms steps budget (Explained best) is holds put = record { best = best; given = holds.answered.found.given; least = holds.answered.found.least; put = put }
-least_of o net alarms steps budget Absent is holds put = absurd (omega arith)
-least_of o net alarms steps budget (Many best) is holds put = absurd (omega arith)
-least_of o net alarms steps budget (Undecided lo best) is holds put = absurd (omega arith)
+  undecided_of : (found : Found) → 11 ≡ status_of_kind (kind_of_found found) → Holds found → Put found → TellsUndecided o net alarms steps budget
+  undecided_of (Undecided lo best) is holds put =
+      let answered = holds.diagnosed.answered in
+      record {
+        lo = lo;
+        best = best;
+        spent = fresh_closed (question_axioms net alarms steps 0) answered.since o.book budget answered.whole answered.fresh answered.found.spent;
+        meanings = holds.diagnosed.meanings;
+        few = answered.few;
+        conflict = answered.conflict;
+        above = answered.found.above;
+        known = answered.found.given;
+        put = put;
+      }
+  undecided_of _ is holds put = absurd (omega arith)
 
-absent_of : (o : Outcome) (net : Net) (alarms : Log) (steps budget : ℕ) (found : Found) → 10 ≡ status_of_kind (kind_of_found found) → IsDiagnosed net alarms steps budget o.book found → IsAbsent net alarms steps
-absent_of o net alarms steps budget (Explained best) is holds = absurd (omega arith)
-absent_of o net alarms steps budget Absent is holds = holds.answered.found.absent
-absent_of o net alarms steps budget (Many best) is holds = absurd (omega arith)
-absent_of o net alarms steps budget (Undecided lo best) is holds = absurd (omega arith)
+module _ (o : Outcome) (ends : o.status ≢ 4 → Ends o) where
+  found_told : (steps budget : ℕ) (text alarms : List ℕ) → CallsDiagnose o steps budget text alarms → (kind : Kind) → o.status ≡ status_of_kind kind
+      → Shown o kind_of_found (text_of_found (network_of text) steps) (Holds o (network_of text) (log_of alarms) steps budget) kind
+  found_told steps budget text alarms asks kind is =
+      let tells = reply_over o ends (asking diagnose_question) refl (steps, budget) (text ∷ alarms ∷ []) asks refl kind is in
+      let said : SaysFound (network_of text) (log_of alarms) steps budget o.book tells.reply = tells.says.says in
+      shown_by o kind_of_found (text_of_found (network_of text) steps) (Holds o (network_of text) (log_of alarms) steps budget) kind is tells said.found said.holds said.is
 
-many_of : (o : Outcome) (net : Net) (alarms : Log) (steps budget : ℕ) (found : Found) → 12 ≡ status_of_kind (kind_of_found found) → IsDiagnosed net alarms steps budget o.book found
-    → Took o.before o.now (text_of_found net steps found ∷ []) → TellsMany o net alarms steps
-many_of o net alarms steps budget (Explained best) is holds put = absurd (omega arith)
-many_of o net alarms steps budget Absent is holds put = absurd (omega arith)
-many_of o net alarms steps budget (Many best) is holds put = record { best = best; given = holds.answered.found.given; many = holds.answered.found.many; put = put }
-many_of o net alarms steps budget (Undecided lo best) is holds put = absurd (omega arith)
-
-undecided_of : (o : Outcome) (net : Net) (alarms : Log) (steps budget : ℕ) (found : Found) → 11 ≡ status_of_kind (kind_of_found found) → IsDiagnosed net alarms steps budget o.book found
-    → Took o.before o.now (text_of_found net steps found ∷ []) → TellsUndecided o net alarms steps budget
-undecided_of o net alarms steps budget (Explained best) is holds put = absurd (omega arith)
-undecided_of o net alarms steps budget Absent is holds put = absurd (omega arith)
-undecided_of o net alarms steps budget (Many best) is holds put = absurd (omega arith)
-undecided_of o net alarms steps budget (Undecided lo best) is holds put =
-    let answered = holds.answered in
-    record {
-      lo = lo;
-      best = best;
-      spent = fresh_closed (question_axioms net alarms steps 0) answered.since o.book budget answered.whole answered.fresh answered.found.spent;
-      meanings = holds.meanings;
-      few = answered.few;
-      conflict = answered.conflict;
-      above = answered.found.above;
-      known = answered.found.given;
-      put = put;
-    }
-
--- the kind that has this status
-pub open_kind : (kind : Kind) → 11 ≡ status_of_kind kind → kind ≡ LeftOpen
-open_kind Done is = absurd (omega arith)
-open_kind Rejected is = absurd (omega arith)
-open_kind NoneThere is = absurd (omega arith)
-open_kind LeftOpen is = refl
-open_kind TooMany is = absurd (omega arith)
-open_kind Nothing is = absurd (omega arith)
-open_kind Ambiguous is = absurd (omega arith)
-
--- a reply is of this kind where the status is this
-pub left_open : {P : (Kind × List ℕ) → Type 0} (o : Outcome) (tells : ShowsReply o P) → o.status ≡ 11 → tells.reply.0 ≡ LeftOpen
-left_open o tells is = open_kind tells.reply.0 (sym is ∙ tells.shown)
-
-module _ (o : Outcome) (ends : Ends o) where
-  pub explained : (steps budget : ℕ) (text alarms : List ℕ) → CallsDiagnose o steps budget text alarms → o.status ≡ 0 → TellsLeast o (network_of text) (log_of alarms) steps
-  explained steps budget text alarms asks is =
-      let tells = found_told o steps budget text alarms ends asks (λ stop. omega (arith, is, stop.low)) in
-      least_of o (network_of text) (log_of alarms) steps budget tells.found (sym is ∙ tells.shown) tells.holds.diagnosed tells.put
-
-  pub absent : (steps budget : ℕ) (text alarms : List ℕ) → CallsDiagnose o steps budget text alarms → o.status ≡ 10 → IsAbsent (network_of text) (log_of alarms) steps
-  absent steps budget text alarms asks is =
-      let tells = found_told o steps budget text alarms ends asks (λ stop. between o.status _ is (omega arith) (omega arith) stop) in
-      absent_of o (network_of text) (log_of alarms) steps budget tells.found (sym is ∙ tells.shown) tells.holds.diagnosed
-
-  pub undecided : (steps budget : ℕ) (text alarms : List ℕ) → CallsDiagnose o steps budget text alarms → o.status ≡ 11 → TellsUndecided o (network_of text) (log_of alarms) steps budget
-  undecided steps budget text alarms asks is =
-      let tells = found_told o steps budget text alarms ends asks (λ stop. between o.status _ is (omega arith) (omega arith) stop) in
-      undecided_of o (network_of text) (log_of alarms) steps budget tells.found (sym is ∙ tells.shown) tells.holds.diagnosed tells.put
-
-  pub many : (steps budget : ℕ) (text alarms : List ℕ) → CallsDiagnose o steps budget text alarms → o.status ≡ 12 → TellsMany o (network_of text) (log_of alarms) steps
-  many steps budget text alarms asks is =
-      let tells = found_told o steps budget text alarms ends asks (λ stop. between o.status _ is (omega arith) (omega arith) stop) in
-      many_of o (network_of text) (log_of alarms) steps budget tells.found (sym is ∙ tells.shown) tells.holds.diagnosed tells.put
-
-  -- a budget that is large enough decides
-  pub diagnosed : (steps budget : ℕ) (text alarms : List ℕ) → CallsDiagnose o steps budget text alarms → IsEnough budget (network_of text) (log_of alarms) steps → o.status ≡ 11 → ⊥
-  diagnosed steps budget text alarms asks enough is =
-      let tells = answer_told o steps budget text alarms ends asks (λ stop. between o.status _ is (omega arith) (omega arith) stop) in
-      tells.says.decided enough (left_open o tells is)
+  pub diagnose_rows : DiagnoseRows o
+  diagnose_rows = record {
+    explained = λ steps budget text alarms asks is. let s = found_told steps budget text alarms asks Done is in least_of o (network_of text) (log_of alarms) steps budget s.answer s.shown s.holds s.put;
+    absent = λ steps budget text alarms asks is. let s = found_told steps budget text alarms asks NoneThere is in absent_of o (network_of text) (log_of alarms) steps budget s.answer s.shown s.holds;
+    undecided = λ steps budget text alarms asks is. let s = found_told steps budget text alarms asks LeftOpen is in undecided_of o (network_of text) (log_of alarms) steps budget s.answer s.shown s.holds s.put;
+    many = λ steps budget text alarms asks is. let s = found_told steps budget text alarms asks TooMany is in many_of o (network_of text) (log_of alarms) steps budget s.answer s.shown s.holds s.put;
+    decided = λ steps budget text alarms asks enough.
+        decided o (told_once ((asking diagnose_question).task (steps, budget))) ends (called_so (one (asking diagnose_question)) o.words refl (steps, budget) asks.called) (text ∷ alarms ∷ []) asks.told (refl, enough);
+  }

@@ -22,7 +22,7 @@ use Rattle.twin_test.proofs.Decoding.{word_is}
 use Rattle.twin_test.specs.Tested.{IsTested, LeavesTwins, run_of_pieces, unnamed}
 use Rattle.twin_test.specs.Twins.{AreAligned, twin_size}
 use Rattle.answers.specs.declared.twin.Twin.{Twin as TwinAnswer}
-use Rattle.answers.specs.declared.twin.Twin.TheVariants.{Ambiguous, Clear, Undecided}
+use Rattle.answers.specs.declared.twin.Twin.TheVariants.{Ambiguous}
 use Rattle.endings.specs.declared.ending.Kind.{Kind}
 use Rattle.endings.specs.declared.stop.Stop.TheVariants.{NoFault}
 use Rattle.endings.specs.Transcripts.{Ending, IsOne}
@@ -41,8 +41,7 @@ use Rattle.diagnose_cli.proofs.RunLengths.{pieces_length}
 
 pub twin_known : (net : Net) (fault n d budget : ℕ) (book : List BookEntry) (answer : TwinAnswer) → IsTested net fault n d budget book answer → TwinEventsKnown net answer
 twin_known net fault n d budget book (Ambiguous faulty healthy) tested = (run_known net (word_of faulty) tested.told.faulty_replays, run_known net (word_of healthy) tested.told.healthy_replays)
-twin_known net fault n d budget book Clear tested = tt
-twin_known net fault n d budget book Undecided tested = tt
+twin_known net fault n d budget book _ tested = tt
 
 -- no alarm is named
 unnamed_names : (events : List ℕ) → HasAlarmNames (map unnamed events)
@@ -64,8 +63,7 @@ twin_reads_back net fault n d budget book (Ambiguous faulty healthy) network dra
       subst (λ (run : List RunStep). IsRunText net run (text_of_run net run)) (sym runs.faulty_run) (pieces_read_back net n runs.faulty network drafted few runs.twins.faulty),
       subst (λ (run : List RunStep). IsRunText net run (text_of_run net run)) (sym runs.healthy_run) (pieces_read_back net n runs.healthy network drafted few runs.twins.healthy),
     )
-twin_reads_back net fault n d budget book Clear network drafted few tested = tt
-twin_reads_back net fault n d budget book Undecided network drafted few tested = tt
+twin_reads_back net fault n d budget book _ network drafted few tested = tt
 
 -- ---- how it ends
 

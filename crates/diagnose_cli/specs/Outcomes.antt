@@ -1,10 +1,12 @@
 -- What is seen of a run of the program from outside.
-use Rattle.std.specs.Prelude.{◌≡◌, ◌≢◌, ℕ, List, [], ◌∷◌}
+use Rattle.std.specs.Prelude.{◌≡◌, ◌≢◌, ℕ, List, [], ◌∷◌, Result, Ok, Err}
 use Rattle.des_base.specs.Outside.{Output, Took}
 use Rattle.proof_ledger.specs.Book.{BookEntry}
 use Rattle.endings.specs.declared.ending.Kind.{Kind}
 use Rattle.endings.specs.Endings.{status_of_kind}
 use Rattle.endings.specs.Files.{Loads}
+use Rattle.telling.specs.declared.each.Broken.{Broken}
+use Rattle.telling.specs.declared.each.Broken.TheVariants.{Memory, Put}
 
 -- the words, what the shelf holds and its counts of faults, what the sink told before and tells now, the book that is left, and the status
 pub record Outcome : Type 0 where
@@ -35,3 +37,9 @@ pub record ShowsReply (o : Outcome) (P : (Kind × List ℕ) → Type 0) : Type 0
   pub says : P reply
   pub shown : o.status ≡ status_of_kind reply.0
   pub put : Took o.before o.now (reply.1 ∷ [])
+
+-- the status of a command with several replies, by how telling them ends; what is told in all has this kind
+abbrev pub status_of_telling : {T : Type 0} → (T → Kind) → Result T Broken → ℕ
+status_of_telling kind (Ok told) = status_of_kind (kind told)
+status_of_telling kind (Err Memory) = 9
+status_of_telling kind (Err Put) = 4

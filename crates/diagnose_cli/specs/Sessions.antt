@@ -1,5 +1,5 @@
 -- How a session goes: it tells of its rows one after another, each with the reply that it has.
-use Rattle.std.specs.Prelude.{◌≡◌, ◌≤◌, ⊤, ℕ, List, Option, Result, Ok, Err, IsOkAnd}
+use Rattle.std.specs.Prelude.{◌≡◌, ◌≤◌, ⊤, ℕ, List, Option, Result, IsOkAnd}
 use Rattle.std.specs.Option.{option_to_list}
 use Rattle.alarm_session.specs.Rows.{IsRowTold}
 use Rattle.alarm_session.specs.Session.{SessionState, Stage}
@@ -12,10 +12,11 @@ use Rattle.proof_ledger.specs.Book.{BookEntry}
 use Rattle.report.specs.Replies.{EventsKnown}
 use Rattle.sat_order.specs.Rank.{IsRanked}
 use Rattle.telling.specs.declared.each.Broken.{Broken}
-use Rattle.telling.specs.declared.each.Broken.TheVariants.{Memory, Put}
 use Rattle.diagnose_cli.specs.declared.session_rows.Plan.{Plan}
 use Rattle.diagnose_cli.specs.SessionReplies.{IsSession, IsUntold, TellsReplaying, replies_to}
+use Rattle.endings.specs.declared.ending.Kind.TheVariants.{Done}
 use Rattle.endings.specs.Transcripts.{Ending}
+use Rattle.diagnose_cli.specs.Outcomes.{status_of_telling}
 
 -- ---- one row
 
@@ -57,6 +58,4 @@ MaySay net n budget rows book e = IsOkAnd e (IsSession net n budget rows book)
 
 -- its status, by how its rows went
 abbrev pub status_of_session : Result (Unit {0}) Broken → ℕ
-status_of_session (Ok done) = 0
-status_of_session (Err Memory) = 9
-status_of_session (Err Put) = 4
+status_of_session r = status_of_telling (λ done. Done) r

@@ -1,5 +1,5 @@
 -- What `verdicts` says: the reply of `diagnose`, and behind a least number of faults one reply on each fault event, in order.
-use Rattle.std.specs.Prelude.{◌≡◌, ℕ, true, false, List, Result, Ok, Err, IsOkAnd}
+use Rattle.std.specs.Prelude.{◌≡◌, ℕ, true, false, List, Result, IsOkAnd}
 use Rattle.des_net.specs.Network.{Net}
 use Rattle.answers.specs.declared.verdict.Verdict.{Verdict}
 use Rattle.least_faults.specs.Growing.{HasGrownWithin}
@@ -7,14 +7,13 @@ use Rattle.answers.specs.declared.found.Found.{Found}
 use Rattle.log_order.specs.Log.{Log as AlarmLog}
 use Rattle.proof_ledger.specs.Book.{BookEntry}
 use Rattle.telling.specs.declared.each.Broken.{Broken}
-use Rattle.telling.specs.declared.each.Broken.TheVariants.{Memory, Put}
 use Rattle.verdict_telling.specs.Whole.{HaveReplies, events_behind, told_of}
 use Rattle.verdict_telling.specs.declared.whole.Told.{Told}
 use Rattle.verdict_telling.specs.declared.whole.Told.TheVariants.{Judged, NotExplained, TooMany, NotDecided}
 use Rattle.endings.specs.declared.ending.Kind.{Kind}
 use Rattle.endings.specs.declared.ending.Kind.TheVariants.{Done, Absent, Undecided, Many}
-use Rattle.endings.specs.Endings.{status_of_kind}
 use Rattle.endings.specs.Transcripts.{End, Ending, Transcript, said, cut, broken}
+use Rattle.diagnose_cli.specs.Outcomes.{status_of_telling}
 
 -- what is told in all has the kind of the reply about the log, but where some event is left open
 abbrev pub kind_of_told : Told → Kind
@@ -26,9 +25,7 @@ kind_of_told NotDecided = Undecided
 
 -- the status, by how telling ends
 abbrev pub status_of_told : Result Told Broken → ℕ
-status_of_told (Ok told) = status_of_kind (kind_of_told told)
-status_of_told (Err Memory) = 9
-status_of_told (Err Put) = 4
+status_of_told r = status_of_telling kind_of_told r
 
 -- The texts are all replies: what was found, with the book that shows it, and the verdict on each fault event behind a least number of faults.
 pub record IsToldInAll (net : Net) (alarms : AlarmLog) (n budget : ℕ) (book : List BookEntry) (texts : List (List ℕ)) (kind : Kind) : Type 0 where

@@ -2,12 +2,13 @@
 use Rattle.std.proofs.Common.{◌≡◌, ◌∙◌, [], Err, arith, ap}
 use Rattle.log_order.specs.Log.{Log, no_log}
 use Rattle.replay.specs.QuestionSize.{question_size}
+use Rattle.endings.specs.declared.ending.Kind.TheVariants.{Done}
 use Rattle.endings.specs.declared.stop.Stop.TheVariants.{Large}
 use Rattle.diagnose_cli.specs.Due.{EndsBySize, StopsEmpty}
 use Rattle.diagnose_cli.specs.SessionReplies.{IsSession}
 use Rattle.endings.proofs.Once.{speaks_once}
 use Rattle.diagnose_cli.proofs.Limits.{ends_large}
-use Rattle.diagnose_cli.proofs.SessionAnswers.{no_stop, session_fails, sized_speaks, stops_empty}
+use Rattle.diagnose_cli.proofs.SessionAnswers.{fails_by, sized_speaks, stops_empty, tells_no_stop}
 use Rattle.diagnose_cli.proofs.session_command.carry_out.Goals as goal
 
 pub returns-then-size-gt-MOST_SIZE-clause-speaks : goal.returns-then-size-gt-MOST_SIZE-clause-speaks
@@ -27,7 +28,7 @@ returns-clause-speaks g c =
     (c.question_size-size.ensures.size ∙ ap (λ (l : Log). question_size plan.net l plan.limits.steps) c.new.ensures) (omega (arith, c.if-size-gt-MOST_SIZE.false)) (book ≡ []) _ _ _ c.status_of.result _ c.status_of.ensures c.carry_out_rows.ensures.speaks
 
 pub returns-clause-stopped : goal.returns-clause-stopped
-returns-clause-stopped g c stop = absurd (no_stop c.carry_out_rows.result c.status_of.result c.status_of.ensures stop)
+returns-clause-stopped g c stop = absurd (tells_no_stop (λ done. Done) c.carry_out_rows.result c.status_of.result c.status_of.ensures stop)
 
 pub returns-clause-failures : goal.returns-clause-failures
-returns-clause-failures g c = session_fails c.carry_out_rows.result c.status_of.result _ _ c.status_of.ensures c.carry_out_rows.ensures.failures
+returns-clause-failures g c = fails_by (λ done. Done) c.carry_out_rows.result c.status_of.result _ _ c.status_of.ensures c.carry_out_rows.ensures.failures

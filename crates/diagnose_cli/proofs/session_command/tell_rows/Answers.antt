@@ -23,6 +23,6 @@ returns-clause-speaks g c =
     let now = g.S.Sink.taken c.put_each-said.new.out in
     let rose = Rose (g.S.Sink.faults c.args.out.now) (g.S.Sink.faults c.put_each-said.new.out) in
     let status = status_of_session c.put_each-said.result in
-    let speaks = rows_speak c.put_each-said.new.teller (λ s. s.plan.now) (λ s. s.session.stage) _ c.rows.result.now before now rose c.put_each-said.result c.put_each-said.ensures.goes begins.stage asks in
+    let speaks = rows_speak (λ s. s.plan.now) (λ s. s.session.stage) _ c.rows.result.now c.put_each-said.new.teller begins.stage asks before now rose c.put_each-said.result c.put_each-said.ensures.goes in
     let of_script = subst (λ (rows : List Row). Speaks (MaySay plan.net plan.limits.steps plan.limits.budget rows c.put_each-said.new.teller.session.stage.book) (c.put_each-said.new.teller.session.stage.book ≡ []) before now rose status) c.rows.ensures speaks in
     subst (λ (book : List BookEntry). Speaks (MaySay plan.net plan.limits.steps plan.limits.budget plan.script book) (book ≡ []) before now rose status) (sym c.into_book.ensures) of_script

@@ -5,11 +5,11 @@ use Rattle.least_faults.specs.declared.TheConstants.{MOST_SIZE}
 use Rattle.replay.specs.QuestionSize.{question_size}
 use Rattle.endings.specs.declared.stop.Stop.TheVariants.{Large}
 use Rattle.diagnose_cli.specs.Due.{EndsBySize, StopsEmpty}
-use Rattle.diagnose_cli.specs.VerdictReplies.{IsVerdicts}
+use Rattle.diagnose_cli.specs.VerdictReplies.{IsVerdicts, kind_of_told}
 use Rattle.endings.proofs.Once.{speaks_once}
 use Rattle.diagnose_cli.proofs.Limits.{ends_large}
-use Rattle.diagnose_cli.proofs.SessionAnswers.{sized_speaks, stops_empty}
-use Rattle.diagnose_cli.proofs.VerdictAnswers.{none_stops, told_speaks, verdicts_fail}
+use Rattle.diagnose_cli.proofs.SessionAnswers.{fails_by, sized_speaks, stops_empty, tells_no_stop}
+use Rattle.diagnose_cli.proofs.VerdictAnswers.{told_speaks}
 use Rattle.diagnose_cli.proofs.verdicts_command.judge_case.Goals as goal
 
 pub returns-then-size-gt-MOST_SIZE-clause-speaks : goal.returns-then-size-gt-MOST_SIZE-clause-speaks
@@ -37,10 +37,10 @@ returns-clause-speaks g c =
     (told_speaks case.net case.log steps c.args.limits.budget book _ _ _ c.tell_case-told.result c.tell_case-told.ensures.tells)
 
 pub returns-clause-stopped : goal.returns-clause-stopped
-returns-clause-stopped g c stop = absurd (none_stops c.tell_case-told.result c.status_of.result c.status_of.ensures stop)
+returns-clause-stopped g c stop = absurd (tells_no_stop kind_of_told c.tell_case-told.result c.status_of.result c.status_of.ensures stop)
 
 pub returns-clause-failures : goal.returns-clause-failures
-returns-clause-failures g c = verdicts_fail c.tell_case-told.result c.status_of.result _ _ c.status_of.ensures c.tell_case-told.ensures.failures
+returns-clause-failures g c = fails_by kind_of_told c.tell_case-told.result c.status_of.result _ _ c.status_of.ensures c.tell_case-told.ensures.failures
 
 pub returns-then-size-gt-MOST_SIZE-clause-left : goal.returns-then-size-gt-MOST_SIZE-clause-left
 returns-then-size-gt-MOST_SIZE-clause-left g c = inl c.requires.empty
