@@ -24,7 +24,7 @@ module _ {S : Type 0} (c : NamedCommand S) (words : List (List ℕ)) where
       by true is read = eqb-true (length words) c.count is
       by false is read = cc
 
-  pub reads_none : (length words ≡ c.count → ⊥) → read_words c words ≡ None
+  reads_none : (length words ≡ c.count → ⊥) → read_words c words ≡ None
   reads_none never = by (nat_eq (length words) c.count) refl
     where
       by : (many : Bool) → nat_eq (length words) c.count ≡ many → so many ≡ None
@@ -40,8 +40,12 @@ module _ (c : NamedCommand Transcript) (words : List (List ℕ)) (listed : IsLis
   pub called_so : (word : c.Word) → AreWords c word words → command_of words ≡ Calls (c.task word)
   called_so word are = called_by_name are.name ∙ ap (calls_by c) are.read
 
-  pub called_not : word_at words 0 ≡ c.name → read_words c words ≡ None → command_of words ≡ NoCommand
-  called_not name none = called_by_name name ∙ ap (calls_by c) none
+  -- nothing, by their number or by what they spell
+  pub too_many : word_at words 0 ≡ c.name → (length words ≡ c.count → ⊥) → command_of words ≡ NoCommand
+  too_many name never = called_by_name name ∙ ap (calls_by c) (reads_none c words never)
+
+  pub not_spelled : word_at words 0 ≡ c.name → length words ≡ c.count → c.spelled words ≡ None → command_of words ≡ NoCommand
+  not_spelled name many none = called_by_name name ∙ ap (calls_by c) (reads_all c words many ∙ none)
 
 -- ---- another name
 

@@ -1,11 +1,11 @@
 -- Each file that is too long and each fault of a text has its status.
-use Rattle.std.proofs.Common.{◌≡◌, ◌≢◌, inl, inr, ℕ, ◌+◌, ◌<◌, ◌≤◌, List, [], ◌∷◌, ◌++◌, length, Bool, nat_lt, Option, Some, None, Ok, Err, IfSome, IsOkAnd, MatchOption, IsErrAnd, refl, sym, ap, subst}
+use Rattle.std.proofs.Common.{◌≡◌, ◌≢◌, inl, inr, ℕ, ◌+◌, ◌<◌, ◌≤◌, List, [], ◌∷◌, ◌++◌, length, Bool, nat_lt, Option, Some, None, Err, IfSome, IsOkAnd, MatchOption, IsErrAnd, refl, sym, ap, subst}
 use Rattle.std.specs.Prelude.{if◌then◌else◌, option_and_then}
 use Rattle.des_base.specs.Outside.{Took}
 use Rattle.des_base.specs.CommandWords.{word_at}
 use Rattle.proof_ledger.specs.Book.{BookEntry}
 use Rattle.endings.specs.declared.stop.Stop.{Stop}
-use Rattle.endings.specs.declared.stop.Stop.TheVariants.{Usage, Load, Faulty, Long, NoFault, Large, Memory}
+use Rattle.endings.specs.declared.stop.Stop.TheVariants.{Usage, Load, Faulty, Long, Memory}
 use Rattle.endings.specs.declared.stop.FaultyText.{FaultyText}
 use Rattle.endings.specs.Transcripts.{Ending, Transcript}
 use Rattle.endings.specs.Files.{Loads, StopsAt}
@@ -42,14 +42,10 @@ past_here (Some text) e rest P h f = h
 -- it stopped at a file, neither by its load nor since memory ran out
 stopped_here : (l : Loads) (i : ℕ) (name : List ℕ) (limit : ℕ) (e : Ending) (rest : List ℕ → Option Stop) → e ≢ Err Memory → ((j : ℕ) → e ≢ Err (Load j)) → IsErrAnd e (StopsAt l i name limit)
     → Is e (option_and_then (λ bytes. if nat_lt limit (length bytes) then Some (Long i) else rest bytes) (l.held name))
-stopped_here l i name limit (Ok t) rest m n h = absurd h
-stopped_here l i name limit (Err Usage) rest m n h = absurd h
 stopped_here l i name limit (Err (Load j)) rest m n h = absurd (n j refl)
-stopped_here l i name limit (Err (Faulty text)) rest m n h = absurd h
-stopped_here l i name limit (Err NoFault) rest m n h = absurd h
-stopped_here l i name limit (Err (Large size)) rest m n h = absurd h
 stopped_here l i name limit (Err (Long j)) rest m n h = long_here (l.held name) (Err (Long j)) i limit rest (ap (λ k. Err (Long k)) h.0) h.1
 stopped_here l i name limit (Err Memory) rest m n h = absurd (m refl)
+stopped_here l i name limit _ rest m n h = absurd h
 
 -- nor by a file: then by what stops it after them, if something does
 closes_here : (o : Option Stop) (e : Ending) (says : Transcript → Type 0) → MatchOption o (IsOkAnd e says) (λ stop. e ≡ Err stop) → Is e o

@@ -1,11 +1,11 @@
 -- The run of a command, which has one reply or several.
-use Rattle.std.proofs.Common.{◌≡◌, ◌≢◌, arith, ℕ, IfErr, IfOk, List, [], ◌∷◌, Result, Ok, Err, refl, ap, subst}
+use Rattle.std.proofs.Common.{◌≡◌, ◌≢◌, arith, ℕ, IfErr, List, [], ◌∷◌, Result, Ok, Err, refl, ap, subst}
 use Rattle.des_base.specs.Outside.{Output}
 use Rattle.proof_ledger.specs.Book.{BookEntry}
 use Rattle.endings.specs.declared.ending.Kind.{Kind}
 use Rattle.endings.specs.declared.stop.Stop.{Stop}
 use Rattle.endings.specs.declared.stop.Stop.TheVariants.{Memory}
-use Rattle.endings.specs.Transcripts.{Ending, cut_short, once}
+use Rattle.endings.specs.Transcripts.{Ending, once}
 use Rattle.endings.specs.Endings.{HasStatus, status_of_stop}
 use Rattle.endings.specs.Files.{Loads}
 use Rattle.endings.specs.Puts.{Puts, Speaks}
@@ -75,13 +75,10 @@ done l words before now book status rose speaks = does (outcome l words before n
 
 -- ---- what a command leaves that stops
 
-nine_of : (stop : Stop) → stop ≡ Memory → status_of_stop stop ≡ 9
-nine_of stop is = ap status_of_stop is
-
 -- so what an ending leaves that has none is left
 stop_told : (r : Result (Kind × List ℕ) Stop) (P : Type 0) (status : ℕ) → IfErr r (λ stop. stop ≢ Memory → P) → HasStatus (once r) status → SaysStop status → P
 stop_told (Ok reply) P status left shown stop = absurd (no_stop_kind reply.0 (subst IsStopStatus shown (is_stop status stop)))
-stop_told (Err why) P status left shown stop = left (λ is. let nine = nine_of why is in between status stop (omega (arith, shown, nine)) (omega (arith, shown, nine)))
+stop_told (Err why) P status left shown stop = left (λ is. let nine : status_of_stop why ≡ 9 = ap status_of_stop is in between status stop (omega (arith, shown, nine)) (omega (arith, shown, nine)))
 
 pub stop_left : (r : Result (Kind × List ℕ) Stop) (P : Type 0) (before now : Output) (rose : Type 0) (status : ℕ) → Puts (once r) before now rose status → IfErr r (λ stop. stop ≢ Memory → P) → SaysStop status → P
 stop_left r P before now rose status puts left stop = stop_told r P status left (puts.shown stop.put (λ nine. between status stop (omega (arith, nine)) (omega (arith, nine)))) stop
@@ -90,8 +87,3 @@ stop_left r P before now rose status puts left stop = stop_told r P status left 
 pub once_empty : (may : Ending → Type 0) (book : List BookEntry) (r : Result (Kind × List ℕ) Stop) (P : Type 0) → r ≢ Err Memory → IfErr r (λ stop. stop ≢ Memory → P) → (P → book ≡ []) → may (once r) → StopsEmpty may book (once r)
 once_empty may book (Ok reply) P never left none h = record { comes = h; empty = tt }
 once_empty may book (Err stop) P never left none h = record { comes = h; empty = none (left (λ is. never (ap (λ (s : Stop). Err s) is))) }
-
--- a reply that is cut short is no stop
-pub cuts_empty : (may : Ending → Type 0) (book : List BookEntry) (r : Result (Kind × List ℕ) Stop) → IfOk r (λ reply. may (Ok (cut_short reply))) → IfOk r (λ reply. StopsEmpty may book (Ok (cut_short reply)))
-cuts_empty may book (Ok reply) h = record { comes = h; empty = tt }
-cuts_empty may book (Err stop) h = tt

@@ -1,6 +1,5 @@
 -- The texts of a generated plant.
-use Rattle.std.proofs.Common.{◌≡◌, ◌∙◌, ℕ, List, Result, Ok, Err, IfOk, ap, subst}
-use Rattle.std.specs.Prelude.{OnOk}
+use Rattle.std.proofs.Common.{◌≡◌, ◌∙◌, ℕ, ap, subst}
 use Rattle.des_net.specs.Network.{Net}
 use Rattle.gen_plant.specs.Plant.{plant_net, plant_log}
 use Rattle.log_order.specs.Log.{Log as AlarmLog}
@@ -14,7 +13,3 @@ use Rattle.diagnose_cli.specs.declared.generate_command.PlantText.TheVariants.{M
 pub says_plant : (text : PlantText) (net : Net) (alarms : AlarmLog) (units start : ℕ) (reply : Reply) → net ≡ plant_net units → alarms ≡ plant_log units start → IsAsRead net → PrintsPlant text net alarms reply → SaysPlant text units start reply
 says_plant Model net alarms units start reply net_is log_is as_read h = record { is = h.0 ∙ ap reply_of_model net_is; again = subst ReadsBack net_is (h.1 as_read) }
 says_plant Log net alarms units start reply net_is log_is as_read h = h ∙ ap reply_of_log log_is
-
-pub both : {T E : Type 0} (r : Result T E) (P : T → Type 0) (Q : Type 0) → IfOk r P → OnOk r Q → IfOk r (λ x. P x × Q)
-both (Ok x) P Q p q = (p, q)
-both (Err e) P Q p q = tt

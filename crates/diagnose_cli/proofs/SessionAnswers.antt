@@ -14,15 +14,15 @@ use Rattle.diagnose_cli.specs.Tasks.{Called, Calls, IfCalled, MatchCalled, Task}
 use Rattle.diagnose_cli.specs.Rows.{LeavesOver, LeftBy}
 use Rattle.diagnose_cli.specs.Due.{MayAnswer, Closes, Due, EndsBySize, HasNotBegun, Says, StopsEmpty}
 use Rattle.endings.specs.Files.{Loads}
-use Rattle.endings.specs.Puts.{Finishes, Speaks}
+use Rattle.endings.specs.Puts.{Puts, Speaks}
 use Rattle.diagnose_cli.specs.Run.{SaysStop}
 use Rattle.diagnose_cli.specs.Outcomes.{status_of_telling}
-use Rattle.endings.specs.Transcripts.{Ending, OrMemory, Transcript, UnlessMemory, once}
+use Rattle.endings.specs.Transcripts.{Ending, Transcript, UnlessMemory, once}
 use Rattle.diagnose_cli.proofs.Limits.{ends_weaker, ends_within}
 use Rattle.telling.specs.Telling.{RisesExactlyIf}
 use Rattle.telling.proofs.Failing.{fails_alike}
 use Rattle.telling.proofs.Taking.{nothing_taken}
-use Rattle.endings.proofs.Once.{wants_memory}
+use Rattle.endings.proofs.Once.{speaks_once, wants_memory}
 use Rattle.endings.proofs.Speaking.{put_speaks}
 use Rattle.diagnose_cli.proofs.FilesInOrder.{all_read, stops_among}
 use Rattle.diagnose_cli.proofs.StopStatus.{between, is_stop, low_stop, reply_status}
@@ -48,15 +48,11 @@ module _ {T : Type 0} (kind : T → Kind) where
 
 -- what holds of each ending that may come holds of it
 module _ (may due : Ending → Type 0) (weaker : (e : Ending) → may e → due e) (P Q : Type 0) (lost : P → Q) (before now : Output) where
-  or_weaker : (e : Ending) → OrMemory may P e → OrMemory due Q e
-  or_weaker e h = record { says = λ never. weaker e (h.says never); wanting = λ is. lost (h.wanting is) }
-
-  finishes : (status : ℕ) → Finishes (OrMemory may P) before now status → Finishes (OrMemory due Q) before now status
-  finishes status h = record { ending = h.ending; due = or_weaker h.ending h.due; shown = h.shown; put = h.put }
-
   pub speaks_weaker : (rose : Type 0) (status : ℕ) → Speaks may P before now rose status → Speaks due Q before now rose status
   speaks_weaker rose status h = record {
-    ends = λ four. finishes status (h.ends four);
+    ends = λ four.
+        let e = h.ends four in
+        record { ending = e.ending; due = record { says = λ never. weaker e.ending (e.due.says never); wanting = λ is. lost (e.due.wanting is) }; shown = e.shown; put = e.put };
     put_failed = h.put_failed;
     cut_off = λ four. let c = h.cut_off four in record { ending = c.ending; due = weaker c.ending c.due; told_cut = c.told_cut; stops = c.stops; put = c.put };
   }
@@ -81,6 +77,11 @@ pub stops_empty : (may : Ending → Type 0) (book : List BookEntry) (e : Ending)
 stops_empty may book (Ok told) none h = record { comes = h; empty = tt }
 stops_empty may book (Err stop) none h = record { comes = h; empty = none }
 
+-- so it is put where nothing was asked
+pub stop_speaks : (may : Ending → Type 0) (lost : Type 0) (book : List BookEntry) (stop : Stop) → lost → book ≡ [] → UnlessMemory {T = Kind × List ℕ} (Err stop) (may (once (Err stop))) → (before now : Output) (rose : Type 0) (status : ℕ) → Puts (once (Err stop)) before now rose status
+    → Speaks (StopsEmpty may book) lost before now rose status
+stop_speaks may lost book stop q empty due before now rose status puts = speaks_once (StopsEmpty may book) lost q (Err stop) before now rose status (λ never. stops_empty may book (Err stop) empty (due never)) puts tt
+
 pub due_for : (l : Loads) (words : List (List ℕ)) (t : Task Transcript) (book : List BookEntry) (e : Ending) → command_of words ≡ Calls t → MayAnswer l words t book e → Due l words book e
 due_for l words t book e called h = subst (λ (k : Called). MatchCalled k (e ≡ Err Usage) (λ s. MayAnswer l words s book e)) (sym called) h
 
@@ -98,8 +99,11 @@ module _ (l : Loads) (words : List (List ℕ)) (t : Task Transcript) (book : Lis
       speaks_weaker (StopsEmpty may book) (StopsEmpty (Due l words book) book)
       (λ e h. record { comes = due_for l words t book e called (all_read l words (Closes t words book) 1 t.files [] texts e read (closes e h.comes)); empty = h.empty }) lost (HasNotBegun words book) (λ q. begun_for words (Calls t) book called (begun q)) before now rose status speaks
 
-  pub files_stop : (stop : Stop) → (stop ≢ NoMemory → StopsAmong l words 1 t.files [] stop) → UnlessMemory {T = Kind × List ℕ} (Err stop) (Due l words book (once (Err stop)))
-  files_stop stop h never = due_for l words t book (Err stop) called (stops_among l words (Closes t words book) 1 t.files [] stop (h (λ is. never (ap (λ s. Err s) is))))
+  pub files_stop : (stop : Stop) → t.lost book → book ≡ [] → (stop ≢ NoMemory → StopsAmong l words 1 t.files [] stop) → (before now : Output) (rose : Type 0) (status : ℕ) → Puts (once (Err stop)) before now rose status
+      → Speaks (StopsEmpty (Due l words book) book) (HasNotBegun words book) before now rose status
+  files_stop stop lost empty at =
+      stop_speaks (Due l words book) (HasNotBegun words book) book stop (begun_for words (Calls t) book called lost) empty
+      (λ never. due_for l words t book (Err stop) called (stops_among l words (Closes t words book) 1 t.files [] stop (at (λ is. never (ap (λ s. Err s) is)))))
 
 -- several replies to a question of this size, by a budget that isn't said to be enough
 pub tells_many : (t : Task Transcript) (words : List (List ℕ)) (book : List BookEntry) (texts : List (List ℕ)) (size : ℕ) (P : Transcript → Type 0) → ((told : Transcript) → P told → t.says words book texts told) → (t.enough words texts → ⊥) → (e : Ending) → EndsBySize size P e → EndsBySize size (Says t words book texts) e

@@ -3,6 +3,7 @@ use Rattle.std.proofs.Common.{◌≡◌, ◌≢◌, ◌≤◌, ◌^◌, ◌∙�
 use Rattle.std.specs.Option.{option_to_list}
 use Rattle.std.specs.Prelude.{flat_map}
 use Rattle.std.proofs.lemmas.Grind.{flat_map-append}
+use Rattle.std.proofs.lemmas.Result.{IfOk-weaker, on_err_weaker}
 use Rattle.alarm_session.proofs.Rowing.{carried_out_more, nothing_carried_out}
 use Rattle.alarm_session.specs.Rows.{AreRowsTold, IsLeftUndone, IsRowTold, after_row}
 use Rattle.alarm_session.specs.Session.{IsSessionBook, Stage, first_stage}
@@ -145,12 +146,10 @@ module _ {S : Type 0} (s t : S) (plan : S → Plan) (stage : S → Stage) (row :
   -- with its reply, where it has one
   pub row_tells : {V E : Type 0} (text_of : V → List ℕ) (r : Result (Option V) E) → IfOk r (λ text. replies_to (plan s).net (plan s).limits.steps told ≡ option_to_list (option_map text_of text))
       → IfOk r (λ text. RowTells plan stage s row t (option_map text_of text))
-  row_tells text_of (Ok text) is = record { same = same; told = told; carried = carried; is = is }
-  row_tells text_of (Err e) is = tt
+  row_tells text_of r = IfOk-weaker r _ (λ text. RowTells plan stage s row t (option_map text_of text)) (λ text is. record { same = same; told = told; carried = carried; is = is })
 
   -- or out of memory for its text
   pub row_untold : {V E : Type 0} (r : Result (Option V) E) → OnErr r (told ≢ Made) → OnErr r (RowIsUntold plan stage s row t)
-  row_untold (Ok text) other = tt
-  row_untold (Err e) other =
+  row_untold r = on_err_weaker r (λ other.
       let reply = has_reply (plan s).net (plan s).limits.steps (plan s).limits.budget (stage s) row (stage t) told other in
-      record { same = same; untold = inl (reply.0, row_replied (plan s).net (plan s).limits.steps (plan s).limits.budget (stage s) row (stage t) told reply.0 carried reply.1) }
+      record { same = same; untold = inl (reply.0, row_replied (plan s).net (plan s).limits.steps (plan s).limits.budget (stage s) row (stage t) told reply.0 carried reply.1) })

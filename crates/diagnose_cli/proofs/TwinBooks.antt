@@ -1,5 +1,5 @@
 -- The book that a twin test leaves, as a whole.
-use Rattle.std.proofs.Common.{◌≡◌, ◌∙◌, ◌<◌, ◌^◌, ℕ, true, List, [], ◌∷◌, ◌++◌, map, refl, sym, ap, subst, arith, append-nil, append_assoc, Contains}
+use Rattle.std.proofs.Common.{◌≡◌, ◌∙◌, ◌<◌, ◌^◌, ℕ, true, List, [], ◌∷◌, ◌++◌, map, refl, sym, ap, subst, arith, append-nil, append_assoc, filter_map, Contains, Option}
 use Rattle.std.specs.List.{list_any}
 use Rattle.std.proofs.lemmas.List.Elements.{Contains-append_left, Contains-append_right, filter_map-append}
 use Rattle.std.proofs.lemmas.List.FromFn.{length-range_with_len}
@@ -21,13 +21,10 @@ use Rattle.pricing.proofs.PricedBooks.{known_below}
 
 -- ---- the closing mark has no clause
 
-axioms_inside : (cs : List Clause) (since : List BookEntry) → axioms_of (map axiomatic cs ++ mark 0 ∷ since ++ mark 1 ∷ []) ≡ axioms_of (marked cs ++ since)
-axioms_inside cs since =
-    filter_map-append axiom_of (map axiomatic cs ++ mark 0 ∷ since) (mark 1 ∷ []) ∙ append-nil (axioms_of (map axiomatic cs ++ mark 0 ∷ since)) ∙ ap axioms_of (sym (append_assoc (map axiomatic cs) (mark 0 ∷ []) since))
-
-clauses_inside : (cs : List Clause) (since : List BookEntry) → clauses_of (map axiomatic cs ++ mark 0 ∷ since ++ mark 1 ∷ []) ≡ clauses_of (marked cs ++ since)
-clauses_inside cs since =
-    filter_map-append clause_of (map axiomatic cs ++ mark 0 ∷ since) (mark 1 ∷ []) ∙ append-nil (clauses_of (map axiomatic cs ++ mark 0 ∷ since)) ∙ ap clauses_of (sym (append_assoc (map axiomatic cs) (mark 0 ∷ []) since))
+inside : {A : Type 0} (f : BookEntry → Option A) (cs : List Clause) (since : List BookEntry) → filter_map f (mark 1 ∷ []) ≡ [] → filter_map f (map axiomatic cs ++ mark 0 ∷ since ++ mark 1 ∷ []) ≡ filter_map f (marked cs ++ since)
+inside f cs since none =
+    let front = map axiomatic cs ++ mark 0 ∷ since in
+    filter_map-append f front (mark 1 ∷ []) ∙ ap (λ (last : List _). filter_map f front ++ last) none ∙ append-nil (filter_map f front) ∙ ap (filter_map f) (sym (append_assoc (map axiomatic cs) (mark 0 ∷ []) since))
 
 -- ---- the book
 
@@ -37,14 +34,14 @@ module _ (net : Net) (fault n d budget : ℕ) (book : List BookEntry) where
 
   module _ (answer : Twin) (tested : IsTested net fault n d budget book answer) where
     axioms_are : axioms_of book ≡ cs
-    axioms_are = ap axioms_of tested.whole ∙ axioms_inside cs tested.since ∙ book_axioms cs tested.since tested.derived
+    axioms_are = ap axioms_of tested.whole ∙ inside axiom_of cs tested.since refl ∙ book_axioms cs tested.since tested.derived
 
     -- its axioms ask for twins
     pub book_asks : AskTwins net fault n d (axioms_of book)
     book_asks = subst (AskTwins net fault n d) (sym axioms_are) tested.asks
 
     pub all_clauses : clauses_of book ≡ clauses_of (marked cs ++ tested.since)
-    all_clauses = ap clauses_of tested.whole ∙ clauses_inside cs tested.since
+    all_clauses = ap clauses_of tested.whole ∙ inside clause_of cs tested.since refl
 
     -- what stands behind the opening mark stands in the book
     pub closed_book : IsClosedBook tested.since → IsClosedBook book

@@ -1,6 +1,5 @@
 -- By the size of its question, and what is found.
-use Rattle.std.proofs.Common.{◌≤◌, ◌++◌, ◌∙◌, codes, length, ap, inl, subst, arith}
-use Rattle.least_faults.specs.declared.TheConstants.{MOST_SIZE}
+use Rattle.std.proofs.Common.{◌++◌, ◌∙◌, codes, length, ap, arith}
 use Rattle.endings.specs.Transcripts.{IsOne}
 use Rattle.replay.specs.QuestionSize.{question_size}
 use Rattle.telling.specs.Lines.{line_with_number}
@@ -12,12 +11,6 @@ pub returns-then-size-gt-MOST_SIZE-clause-ends : goal.returns-then-size-gt-MOST_
 returns-then-size-gt-MOST_SIZE-clause-ends c _ =
     let case = c.args.case.now in
     ends_large _ c.question_size-size.result (IsOne (SaysSummary c.args.units case.net case.log c.args.limits.steps c.args.limits.budget c.args.book.now.entries)) c.question_size-size.ensures.size (omega (arith, c.if-size-gt-MOST_SIZE.true))
-
-pub ask_by-requires-clause-limits : goal.ask_by-requires-clause-limits
-ask_by-requires-clause-limits c = record {
-  steps = c.requires.steps;
-  size = subst (λ k. k ≤ MOST_SIZE) c.question_size-size.ensures.size (omega (arith, c.if-size-gt-MOST_SIZE.false));
-}
 
 pub returns-clause-ends : goal.returns-clause-ends
 returns-clause-ends c _ =
@@ -34,6 +27,3 @@ returns-clause-ends c _ =
     let says : SaysSummary units case.net case.log n budget book c.in_ok-sum_up.field-0 =
     record { found = found.found; holds = found.holds; is = c.in_ok-sum_up.ensures ∙ by_count ∙ by_size ∙ ap (summary_of units case.net case.log n) found.is } in
     ends_said (question_size case.net case.log n) size (SaysSummary units case.net case.log n budget book) c.in_ok-sum_up.field-0 c.question_size-size.ensures.size (omega (arith, c.if-size-gt-MOST_SIZE.false)) says
-
-pub returns-then-size-gt-MOST_SIZE-clause-left : goal.returns-then-size-gt-MOST_SIZE-clause-left
-returns-then-size-gt-MOST_SIZE-clause-left c = inl c.requires.empty

@@ -27,8 +27,5 @@ tell-requires-clause-known c =
 pub returns-in_err-cheap-clause-left : goal.returns-in_err-cheap-clause-left
 returns-in_err-cheap-clause-left c = left c.args.case.now.net (cost_at c.args.table.now) c.args.case.now.log c.args.limits.steps c.args.limits.budget c.pose.new.book.entries c.pose.ensures.left
 
-pub returns-clause-says : goal.returns-clause-says
-returns-clause-says c = c.tell.ensures (cost_at c.args.table.now) c.args.limits.budget c.pose.new.book.entries c.in_ok-cheap.ensures.says
-
 pub returns-clause-left : goal.returns-clause-left
 returns-clause-left c = left c.args.case.now.net (cost_at c.args.table.now) c.args.case.now.log c.args.limits.steps c.args.limits.budget c.pose.new.book.entries c.pose.ensures.left

@@ -2,8 +2,7 @@
 use Rattle.std.proofs.Common.{◌∙◌, refl, sym}
 use Rattle.endings.specs.Files.{loads}
 use Rattle.diagnose_cli.specs.Commands.{session}
-use Rattle.diagnose_cli.proofs.Called.{called_so}
-use Rattle.diagnose_cli.proofs.Dues.{asks_nothing, has_files}
+use Rattle.diagnose_cli.proofs.Dues.{asks_all}
 use Rattle.diagnose_cli.proofs.Once.{done}
 use Rattle.diagnose_cli.proofs.run.put_session.Goals as goal
 
@@ -15,15 +14,4 @@ returns-in-Some-clause-does g c =
     done (loads g.F.Shelf.held g.F.Shelf.faults c.args.shelf.now c.session_command.new.shelf) c.args.words.now (g.S.Sink.taken c.args.out.now) (g.S.Sink.taken c.session_command.new.out) c.session_command.new.book.entries c.session_command.result _ c.session_command.ensures.speaks
 
 pub returns-in-Some-clause-left_alone : goal.returns-in-Some-clause-left_alone
-returns-in-Some-clause-left_alone g c =
-    let words = c.args.words.now in
-    let t = session.task c.in-Some.limits in
-    let called = called_so session words refl c.in-Some.limits (record { name = c.requires.name; read = sym c.read_limits.ensures.spelled ∙ c.in-Some.is }) in
-    record {
-      no_load = λ none. let no_files = has_files words t called none in cc;
-      no_question = λ none. let asks_none = asks_nothing words t called none in cc;
-      stopped = c.session_command.ensures.stopped;
-    }
-
-pub returns-in-Some-clause-left : goal.returns-in-Some-clause-left
-returns-in-Some-clause-left g c = c.session_command.ensures.left
+returns-in-Some-clause-left_alone g c = asks_all session c.args.words.now refl c.in-Some.limits (record { name = c.requires.name; read = sym c.read_limits.ensures.spelled ∙ c.in-Some.is }) (λ none. cc) (λ none. cc) _ _ _ _ _ c.session_command.ensures.stopped

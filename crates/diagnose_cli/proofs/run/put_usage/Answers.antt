@@ -1,12 +1,10 @@
 -- That they call no command is due.
-use Rattle.std.proofs.Common.{Err}
 use Rattle.endings.specs.Files.{loads}
 use Rattle.endings.specs.declared.stop.Stop.TheVariants.{Usage}
-use Rattle.endings.proofs.Once.{speaks_once}
-use Rattle.diagnose_cli.specs.Due.{Due, HasNotBegun, StopsEmpty}
+use Rattle.diagnose_cli.specs.Due.{Due, HasNotBegun}
 use Rattle.diagnose_cli.proofs.Dues.{nothing_called, usage_is_due, usage_left}
 use Rattle.diagnose_cli.proofs.Once.{done}
-use Rattle.diagnose_cli.proofs.SessionAnswers.{stops_empty}
+use Rattle.diagnose_cli.proofs.SessionAnswers.{stop_speaks}
 use Rattle.diagnose_cli.proofs.run.put_usage.Goals as goal
 
 pub returns-clause-does : goal.returns-clause-does
@@ -16,7 +14,7 @@ returns-clause-does g c =
     let book = c.args._book.now.entries in
     let due = usage_is_due l words book (nothing_called words c.requires.none) in
     done l words (g.S.Sink.taken c.args.out.now) (g.S.Sink.taken c.put_once.new.out) book c.put_once.result _
-    (speaks_once (StopsEmpty (Due l words book) book) (HasNotBegun words book) due.begun (Err Usage) _ _ _ _ (λ never. stops_empty (Due l words book) book (Err Usage) c.requires.empty (due.due never)) c.put_once.ensures.puts tt)
+    (stop_speaks (Due l words book) (HasNotBegun words book) book Usage due.begun c.requires.empty due.due _ _ _ _ c.put_once.ensures.puts)
 
 pub returns-clause-left : goal.returns-clause-left
 returns-clause-left g c =

@@ -7,12 +7,6 @@ use Rattle.diagnose_cli.specs.Sessions.{MaySay}
 use Rattle.diagnose_cli.proofs.SessionAnswers.{broke_before}
 use Rattle.diagnose_cli.proofs.session_command.carry_out_rows.Goals as goal
 
-pub returns-in-Ok-clause-speaks : goal.returns-in-Ok-clause-speaks
-returns-in-Ok-clause-speaks g c = c.in-Ok.ensures.says.0
-
-pub returns-in-Ok-clause-failures : goal.returns-in-Ok-clause-failures
-returns-in-Ok-clause-failures g c = c.in-Ok.ensures.says.1
-
 pub returns-in-Err-clause-speaks : goal.returns-in-Err-clause-speaks
 returns-in-Err-clause-speaks g c =
     let plan = c.args.plan.now in

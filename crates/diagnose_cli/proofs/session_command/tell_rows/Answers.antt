@@ -10,9 +10,6 @@ use Rattle.diagnose_cli.proofs.SessionEnds.{rows_speak}
 use Rattle.diagnose_cli.proofs.SessionFronts.{same_setting}
 use Rattle.diagnose_cli.proofs.session_command.tell_rows.Goals as goal
 
-pub put_each-said-requires : goal.put_each-said-requires
-put_each-said-requires g c = record { ranked = c.requires.ranked; net = c.requires.begins.net_is; time = c.requires.begins.steps; few = c.requires.steps }
-
 pub returns-clause-speaks : goal.returns-clause-speaks
 returns-clause-speaks g c =
     let plan = c.args.plan.now in

@@ -3,6 +3,3 @@ use Rattle.diagnose_cli.proofs.twin_command.reply_about.Goals as goal
 
 pub tell-requires-clause-known : goal.tell-requires-clause-known
 tell-requires-clause-known c = twin_known c.args.net.now c.args.fault c.args.limits.steps c.args.limits.after c.args.limits.budget c.test.new.book.entries c.in_ok-answer.answer c.in_ok-answer.ensures.tested
-
-pub returns-clause-says : goal.returns-clause-says
-returns-clause-says c = c.tell.ensures c.args.fault c.test.new.book.entries c.in_ok-answer.ensures.tested

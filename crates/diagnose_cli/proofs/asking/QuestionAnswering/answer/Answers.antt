@@ -1,13 +1,10 @@
 -- By the size of the question, and what is answered.
-use Rattle.std.proofs.Common.{◌≤◌, Err, List, Ok, sym, subst, arith}
+use Rattle.std.proofs.Common.{Err, Ok, arith}
 use Rattle.endings.specs.Transcripts.{Ending, IsOne, once}
 use Rattle.endings.specs.declared.stop.Stop.TheVariants.{Large}
-use Rattle.least_faults.specs.declared.TheConstants.{MOST_SIZE}
-use Rattle.proof_ledger.specs.Book.{BookEntry}
 use Rattle.replay.specs.QuestionSize.{question_size}
 use Rattle.diagnose_cli.specs.Commands.{asking}
 use Rattle.diagnose_cli.specs.Questions.{AnswersTo}
-use Rattle.diagnose_cli.specs.Rows.{Leaves}
 use Rattle.diagnose_cli.specs.Tasks.{told_once}
 use Rattle.diagnose_cli.proofs.Left.{empty_left}
 use Rattle.diagnose_cli.proofs.Limits.{ends_large, ends_said}
@@ -40,16 +37,9 @@ returns-clause-closes g c texts read _ =
     closes_asked question n last c.args._words.now book texts case.net case.log read (once (Ok reply))
     (ends_said (question_size case.net case.log n) c.question_size-size.result (AnswersTo question last case.net case.log n book) reply c.question_size-size.ensures.size (omega (arith, c.if-size-gt-MOST_SIZE.false)) c.in_ok-ask_by.ensures.replies)
 
-pub ask_by-requires-clause-limits : goal.ask_by-requires-clause-limits
-ask_by-requires-clause-limits g c = record {
-  steps = c.requires.fits;
-  size = subst (λ k. k ≤ MOST_SIZE) c.question_size-size.ensures.size (omega (arith, c.if-size-gt-MOST_SIZE.false));
-}
-
 pub returns-then-size-gt-MOST_SIZE-clause-left : goal.returns-then-size-gt-MOST_SIZE-clause-left
 returns-then-size-gt-MOST_SIZE-clause-left g c texts read =
-    let t = told_once ((asking g.Q.Replying.question).task (c.args.self.now.steps, g.Q.Replying.word c.args.self.now.inquiry)) in
-    subst (λ (book : List BookEntry). Leaves t c.args._words.now texts book) (sym c.requires.empty) (empty_left t c.args._words.now texts)
+    empty_left (told_once ((asking g.Q.Replying.question).task (c.args.self.now.steps, g.Q.Replying.word c.args.self.now.inquiry))) c.args._words.now texts c.args.book.now.entries c.requires.empty
 
 pub returns-in_err-ask_by-clause-left : goal.returns-in_err-ask_by-clause-left
 returns-in_err-ask_by-clause-left g c texts read =

@@ -1,5 +1,5 @@
 -- By the plant that is made.
-use Rattle.std.proofs.Common.{[], inl, subst}
+use Rattle.std.proofs.Common.{[], subst}
 use Rattle.des_net.specs.Network.{Net}
 use Rattle.endings.specs.Transcripts.{IsOne, once}
 use Rattle.gen_plant.specs.Plant.{plant_net, plant_log}
@@ -13,6 +13,7 @@ use Rattle.diagnose_cli.specs.Replies.{SaysBenched, SaysSummary}
 use Rattle.diagnose_cli.proofs.Diagnosing.{summary_decided}
 use Rattle.diagnose_cli.proofs.Limits.{ends_weaker, says_one}
 use Rattle.diagnose_cli.specs.Rows.{Leaves}
+use Rattle.diagnose_cli.proofs.Left.{empty_left}
 use Rattle.diagnose_cli.proofs.Orders.{memory_free}
 use Rattle.diagnose_cli.proofs.ReadOver.{over_none}
 use Rattle.diagnose_cli.proofs.bench_command.BenchCommandAnswering.answer.Goals as goal
@@ -33,9 +34,7 @@ returns-clause-closes c texts read never =
     (subst (λ (m : Net). EndsBySize (question_size m plant.log n) (IsOne (SaysSummary s.units m plant.log n s.limits.budget book)) e) c.in_ok-plant.ensures.net (c.bench-answer.ensures.ends never))))
 
 pub returns-in_err-plant-clause-left : goal.returns-in_err-plant-clause-left
-returns-in_err-plant-clause-left c texts read =
-    let s = c.args.self.now in
-    over_none (λ ts. Leaves (told_once (bench.task s)) c.args._words.now ts c.args.book.now.entries) texts read (λ same. inl c.requires.empty)
+returns-in_err-plant-clause-left c texts read = empty_left (told_once (bench.task c.args.self.now)) c.args._words.now texts c.args.book.now.entries c.requires.empty
 
 pub returns-clause-left : goal.returns-clause-left
 returns-clause-left c texts read =

@@ -1,5 +1,5 @@
 -- By the size of the question, and what is answered.
-use Rattle.std.proofs.Common.{[], ◌∷◌, ◌≡◌, ◌≤◌, ◌<◌, ℕ, List, Option, Err, Ok, sym, subst, arith}
+use Rattle.std.proofs.Common.{[], ◌∷◌, ◌≡◌, ◌≤◌, ◌<◌, ℕ, List, Option, Err, Ok, arith}
 use Rattle.cost_least.specs.Costs.{cost_size}
 use Rattle.des_net.specs.Network.{Net}
 use Rattle.endings.specs.Transcripts.{once}
@@ -10,11 +10,9 @@ use Rattle.least_faults.specs.declared.TheConstants.{MOST_SIZE}
 use Rattle.log_csv.specs.LogText.{log_of}
 use Rattle.log_order.specs.Log.{Log}
 use Rattle.model_text.specs.ModelFaults.{network_of}
-use Rattle.proof_ledger.specs.Book.{BookEntry}
 use Rattle.diagnose_cli.specs.CheapReplies.{SaysCheap}
 use Rattle.diagnose_cli.specs.Tasks.{told_once}
 use Rattle.diagnose_cli.specs.Due.{Closes, Says}
-use Rattle.diagnose_cli.specs.Rows.{Leaves}
 use Rattle.diagnose_cli.proofs.CheapAnswers.{may_price, priced, prices_left}
 use Rattle.diagnose_cli.proofs.Left.{empty_left}
 use Rattle.diagnose_cli.proofs.Limits.{ends_large, ends_within}
@@ -49,16 +47,9 @@ returns-clause-closes c texts read _ =
     ends_within (cost_size (network_of text) (log_of alarms) n) k (Says (told_once (priced n budget)) c.args._words.now book (text ∷ alarms ∷ prices ∷ [])) (once (Ok reply)) h.0 h.1 (may_price n budget c.args._words.now book text alarms prices table reply of h.2))
     c.args.files.now.case read (c.cost_size-size.ensures.size, omega (arith, c.if-size-gt-MOST_SIZE.false), c.in_ok-reply_to_costs.ensures.says)
 
-pub reply_to_costs-requires-clause-within : goal.reply_to_costs-requires-clause-within
-reply_to_costs-requires-clause-within c = record {
-  steps = c.requires.fits;
-  size = subst (λ k. k ≤ MOST_SIZE) c.cost_size-size.ensures.size (omega (arith, c.if-size-gt-MOST_SIZE.false));
-}
-
 pub returns-then-size-gt-MOST_SIZE-clause-left : goal.returns-then-size-gt-MOST_SIZE-clause-left
 returns-then-size-gt-MOST_SIZE-clause-left c texts read =
-    let command = told_once (priced c.args.self.now.limits.steps c.args.self.now.limits.budget) in
-    subst (λ (book : List BookEntry). Leaves command c.args._words.now texts book) (sym c.requires.empty) (empty_left command c.args._words.now texts)
+    empty_left (told_once (priced c.args.self.now.limits.steps c.args.self.now.limits.budget)) c.args._words.now texts c.args.book.now.entries c.requires.empty
 
 pub returns-in_err-reply_to_costs-clause-left : goal.returns-in_err-reply_to_costs-clause-left
 returns-in_err-reply_to_costs-clause-left c = prices_left c.args.self.now.limits.steps c.args.self.now.limits.budget c.args._words.now c.reply_to_costs.new.book.entries c.args.files.now.case c.args.files.now.table c.reply_to_costs.ensures.left

@@ -8,9 +8,6 @@ use Rattle.diagnose_cli.specs.Questions.{cnf_question, AnswersTo}
 use Rattle.diagnose_cli.specs.Replies.{reply_of_formula}
 use Rattle.diagnose_cli.proofs.cnf_command.FormulaWithinReplying.reply.Goals as goal
 
-pub reply_of_formula-requires : goal.reply_of_formula-requires
-reply_of_formula-requires c = c.requires.answers.1.known
-
 pub returns : goal.returns
 returns c book says =
     let cnf = c.args.answer in

@@ -1,14 +1,12 @@
 -- By the fault event that the word names, by the size of the question, and by what is answered.
-use Rattle.std.proofs.Common.{◌∙◌, List, Err, Ok, ap, sym, subst, arith}
+use Rattle.std.proofs.Common.{◌∙◌, Err, Ok, ap, sym, arith}
 use Rattle.des_base.specs.CommandWords.{word_at}
 use Rattle.endings.specs.Transcripts.{IsOne, once}
 use Rattle.endings.specs.declared.stop.Stop.TheVariants.{Large}
 use Rattle.event_costs.specs.CostText.{fault_event_of}
-use Rattle.proof_ledger.specs.Book.{BookEntry}
 use Rattle.twin_test.specs.Twins.{twin_size}
 use Rattle.diagnose_cli.specs.Commands.{twin}
 use Rattle.diagnose_cli.specs.Tasks.{told_once}
-use Rattle.diagnose_cli.specs.Rows.{Leaves}
 use Rattle.diagnose_cli.specs.TwinReplies.{SaysOfWord}
 use Rattle.diagnose_cli.proofs.Left.{empty_left}
 use Rattle.diagnose_cli.proofs.Limits.{ends_large, ends_said}
@@ -43,14 +41,10 @@ returns-clause-closes c texts read _ =
     (of_word limits.steps limits.after limits.budget words book texts net read c.in-Some.fault named reply c.in_ok-reply_about.ensures.says))
 
 pub returns-in_default-clause-left : goal.returns-in_default-clause-left
-returns-in_default-clause-left c texts read =
-    let command = told_once (twin.task c.args.self.now) in
-    subst (λ (book : List BookEntry). Leaves command c.args.words.now texts book) (sym c.requires.empty) (empty_left command c.args.words.now texts)
+returns-in_default-clause-left c texts read = empty_left (told_once (twin.task c.args.self.now)) c.args.words.now texts c.args.book.now.entries c.requires.empty
 
 pub returns-then-size-gt-MOST_SIZE-clause-left : goal.returns-then-size-gt-MOST_SIZE-clause-left
-returns-then-size-gt-MOST_SIZE-clause-left c texts read =
-    let command = told_once (twin.task c.args.self.now) in
-    subst (λ (book : List BookEntry). Leaves command c.args.words.now texts book) (sym c.requires.empty) (empty_left command c.args.words.now texts)
+returns-then-size-gt-MOST_SIZE-clause-left c texts read = empty_left (told_once (twin.task c.args.self.now)) c.args.words.now texts c.args.book.now.entries c.requires.empty
 
 pub returns-in_err-reply_about-clause-left : goal.returns-in_err-reply_about-clause-left
 returns-in_err-reply_about-clause-left c texts read =
