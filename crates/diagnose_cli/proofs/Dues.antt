@@ -51,7 +51,7 @@ module _ (l : Loads) (words : List (List ℕ)) (t : Task Reply) (book : List Boo
   cut_due (Err stop) h = tt
 
   -- with one reply
-  pub is_due : (r : Result Reply Stop) → UnlessMemory r (MayAnswer l words (told_once t) book (once r)) → IsDue l words book r
+  is_due : (r : Result Reply Stop) → UnlessMemory r (MayAnswer l words (told_once t) book (once r)) → IsDue l words book r
   is_due r h = record { due = λ never. due_for l words (told_once t) book (once r) called (h never); cut = cut_due r h; begun = begun_for words (Calls (told_once t)) book called tt }
 
 -- by the kinds of its files

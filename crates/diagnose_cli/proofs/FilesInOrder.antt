@@ -1,6 +1,5 @@
 -- A command goes on from its files, whichever it has, or stops at one of them.
-use Rattle.std.proofs.Common.{◌≡◌, ◌≤◌, ◌<◌, ◌⊎◌, inl, inr, ℕ, ◌+◌, List, [], ◌∷◌, ◌++◌, length, Bool, true, false, Option, Some, None, IfSome, MatchOption, Ok, Err, IsErrAnd, ◌∙◌, append-nil, append_assoc, ap, refl, sym, subst, arith}
-use Rattle.std.specs.Prelude.{nat_eq}
+use Rattle.std.proofs.Common.{◌≡◌, ◌≤◌, ◌<◌, ◌⊎◌, inl, inr, ℕ, ◌+◌, List, [], ◌∷◌, ◌++◌, length, Bool, true, false, Option, Some, None, IfSome, MatchOption, Ok, Err, IsErrAnd, ◌∙◌, append-nil, append_assoc, ap, refl, sym, subst, arith, nat_eq}
 use Rattle.std.proofs.lemmas.Bool.{eqb-true, eq-eqb}
 use Rattle.proof_ledger.specs.Book.{BookEntry}
 use Rattle.endings.specs.declared.stop.Stop.{Stop}

@@ -32,4 +32,3 @@ mod SessionEnds
 mod FilesInOrder
 mod ReadOver
 mod Dues
-mod Plants

@@ -1,6 +1,5 @@
 -- Sizes on both sides of the limit.
-use Rattle.std.proofs.Common.{◌≢◌, ◌≡◌, ◌∙◌, ◌≤◌, ◌<◌, ℕ, List, Option, Some, None, Ok, Err, IsOkAnd, MatchOption, ap, sym, subst, Bool, refl}
-use Rattle.std.specs.Prelude.{if◌then◌else◌, option_map}
+use Rattle.std.proofs.Common.{◌≢◌, ◌≡◌, ◌∙◌, ◌≤◌, ◌<◌, ℕ, List, Option, Some, None, Ok, Err, IsOkAnd, MatchOption, ap, sym, subst, Bool, refl, if◌then◌else◌, option_map}
 use Rattle.least_faults.specs.declared.TheConstants.{MOST_SIZE}
 use Rattle.endings.specs.declared.ending.Kind.{Kind}
 use Rattle.endings.specs.declared.stop.Stop.{Stop}

@@ -1,8 +1,7 @@
 -- The alarms of a run that is matched to a log have names.
-use Rattle.std.proofs.Common.{◌≡◌, ◌<◌, ◌≤◌, ℕ, zero, suc, Bool, true, false, cond, List, [], ◌∷◌, length, Option, Some, None, IfSome, IsSome, refl, sym, subst}
+use Rattle.std.proofs.Common.{◌≡◌, ◌<◌, ◌≤◌, ℕ, zero, suc, Bool, true, false, cond, List, [], ◌∷◌, length, Option, Some, None, IfSome, IsSome, refl, sym, subst, All, bytes_eq, option_map}
 use Rattle.std.proofs.lemmas.List.Elements.{All-nil, All-cons}
 use Rattle.std.proofs.lemmas.Slice.Eq.{bytes_eq-Decides}
-use Rattle.std.specs.Prelude.{All, bytes_eq, option_map}
 use Rattle.std.specs.List.{AllByRecursion}
 use Rattle.des_base.specs.Names.{IsName, place_of}
 use Rattle.des_net.specs.Network.{Net}

@@ -1,6 +1,5 @@
 -- What a reply tells of a refutation, by what was refuted.
-use Rattle.std.proofs.Common.{◌≡◌, ◌≤◌, ◌∙◌, ℕ, zero, suc, List, Option, Some, None, ap, refl, sym, subst}
-use Rattle.std.specs.Prelude.{All, codes}
+use Rattle.std.proofs.Common.{◌≡◌, ◌≤◌, ◌∙◌, ℕ, zero, suc, List, Option, Some, None, ap, refl, sym, subst, All, codes}
 use Rattle.des_net.specs.Building.{IsDraft}
 use Rattle.des_net.specs.Network.{Net, IsNetwork}
 use Rattle.inquiries.specs.Refuted.{IsVerifiedRefutation, IsRefutedBelow, IsRefutedFor, IsRefutedWithin, IsRefuting}

@@ -1,6 +1,5 @@
 -- A proof that is printed behind a comment reads back, and is verified as its steps are.
-use Rattle.std.proofs.Common.{◌≡◌, ℕ, false, true, List, ◌∷◌, ◌++◌, [], length, Option, None, Some, refl, sym, subst, arith, append_assoc}
-use Rattle.std.specs.Prelude.{codes, decimal}
+use Rattle.std.proofs.Common.{◌≡◌, ℕ, false, true, List, ◌∷◌, ◌++◌, [], length, Option, None, Some, refl, sym, subst, arith, append_assoc, codes, decimal}
 use Rattle.std.specs.List.{list_all}
 use Rattle.des_base.proofs.PrintedLines.{line_byte, word_in_line}
 use Rattle.des_base.specs.CountedLines.{is_counted}

@@ -33,9 +33,6 @@ module _ (G : List (List ℕ) → Type 0) (texts : List (List ℕ)) where
   pub over_case : (F : Net → AlarmLog → Type 0) → ((text alarms : List ℕ) → F (network_of text) (log_of alarms) → G (text ∷ alarms ∷ [])) → (net : Net) (log : AlarmLog) → IsCaseRead texts net log → F net log → G texts
   over_case F g net log read f = over_second (λ n. F n log) (λ n rows a. a ≡ log_of rows) log (λ text rows is h. g text rows (subst (F (network_of text)) is h)) net read f
 
-  pub over_run : (F : Net → List RunStep → Type 0) → ((text steps : List ℕ) → F (network_of text) (run_of (network_of text) steps) → G (text ∷ steps ∷ [])) → (net : Net) (run : List RunStep) → AreReadThen IsModelRead (λ n steps r. r ≡ run_of n steps) texts net run → F net run → G texts
-  over_run F g net run read f = over_second (λ n. F n run) (λ n steps r. r ≡ run_of n steps) run (λ text steps is h. g text steps (subst (F (network_of text)) is h)) net read f
-
   pub over_script : (F : Net → List Row → Type 0) → ((text lines : List ℕ) → F (network_of text) (script_of lines) → G (text ∷ lines ∷ [])) → (net : Net) (rows : List Row) → AreReadThen IsModelRead (λ n lines r. r ≡ script_of lines) texts net rows → F net rows → G texts
   over_script F g net rows read f = over_second (λ n. F n rows) (λ n lines r. r ≡ script_of lines) rows (λ text lines is h. g text lines (subst (F (network_of text)) is h)) net read f
 

@@ -1,6 +1,5 @@
 -- What `twin` answers where its model is read.
-use Rattle.std.proofs.Common.{inr, ◌≡◌, ◌≤◌, ◌<◌, ℕ, List, [], ◌∷◌, length, Option, Some, None, Err, IfSome, IsOkAnd, IsSomeAnd, MatchOption, sym, subst, refl, arith}
-use Rattle.std.specs.Prelude.{All, is_none, map}
+use Rattle.std.proofs.Common.{inr, ◌≡◌, ◌≤◌, ◌<◌, ℕ, List, [], ◌∷◌, length, Option, Some, None, Err, IfSome, IsOkAnd, IsSomeAnd, MatchOption, sym, subst, refl, arith, All, is_none, map}
 use Rattle.std.proofs.lemmas.List.{length-map}
 use Rattle.std.proofs.lemmas.List.Elements.{All-nil, All-cons}
 use Rattle.std.proofs.lemmas.Nat.{mul-le}

@@ -1,6 +1,5 @@
 -- What worked command lines spell, call and ask.
-use Rattle.std.proofs.Common.{◌≡◌, List, ℕ, [], ◌∷◌, None, Some, refl}
-use Rattle.std.specs.Prelude.{codes}
+use Rattle.std.proofs.Common.{◌≡◌, List, ℕ, [], ◌∷◌, None, Some, refl, codes}
 use Rattle.diagnose_cli.specs.Commands.{asking, command_of, session, show}
 use Rattle.diagnose_cli.specs.Questions.{cnf_question, diagnose_question, proof_question}
 use Rattle.diagnose_cli.specs.Tasks.{Calls, NoCommand, told_once}

@@ -1,8 +1,9 @@
 -- What the whole run does.
-use Rattle.std.specs.Prelude.{⊤, length, ◌≡◌, ◌≢◌, ◌⊎◌, ℕ, List, [], ◌∷◌, ◌≤◌, codes, false}
+use Rattle.std.specs.Prelude.{⊤, length, ◌≡◌, ◌≢◌, ◌⊎◌, ℕ, List, [], ◌∷◌, ◌≤◌, codes, false, Option}
 use Rattle.des_base.specs.Outside.{Rose, Took}
 use Rattle.des_base.specs.CommandWords.{word_at}
 use Rattle.telling.specs.Lines.{line_with_number}
+use Rattle.telling.specs.Telling.{RisesExactlyIf}
 use Rattle.diagnose_cli.specs.Tasks.{IfCalled, MatchCalled}
 use Rattle.diagnose_cli.specs.Commands.{command_of}
 use Rattle.diagnose_cli.specs.Due.{Due, MayCome, StopsEmpty}
@@ -10,7 +11,7 @@ use Rattle.diagnose_cli.specs.Outcomes.{Outcome, IsUnbroken}
 use Rattle.diagnose_cli.specs.Deciding.{DecidedRow}
 use Rattle.diagnose_cli.specs.Exact.{StopRow}
 use Rattle.endings.specs.Puts.{Finishes, IsCutOff}
-use Rattle.diagnose_cli.specs.Rows.{TraceRow, ShowRow, ReplayRow, CheckRows, AskedRow, GenerateRows, BenchRow, DiagnoseRows, SessionRow}
+use Rattle.diagnose_cli.specs.Rows.{TraceRow, ShowRow, ReplayRow, CheckRows, AskedRow, GenerateRows, BenchRow, DiagnoseRows, SessionRow, LeftRow}
 use Rattle.diagnose_cli.specs.TwinRows.{TwinRows}
 use Rattle.diagnose_cli.specs.VerdictRows.{VerdictRows}
 use Rattle.diagnose_cli.specs.CheapRows.{CheapRows}
@@ -93,3 +94,10 @@ pub record Does (o : Outcome) (rose : Type 0) : Type 0 where
   pub judged : VerdictRows o
   pub priced : CheapRows o
   pub ran : Ran o rose
+
+-- What a command answers and how its run ends, what it leaves alone and what it leaves in the book. A failure of the sink is counted exactly if the status is 4.
+pub record Responds {F B : Type 0} (o : Outcome) (rose : Type 0) (shelf later : F) (book final : B) (failed fails : Option ℕ) : Type 0 where
+  pub does : Does o rose
+  pub left_alone : LeavesAlone o.words o.status shelf later book final
+  pub left : LeftRow o
+  pub failures : RisesExactlyIf (o.status ≡ 4) failed fails

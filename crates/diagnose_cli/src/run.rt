@@ -11,7 +11,7 @@ ghost use Rattle.diagnose_cli.specs.Rows.{TraceRow, ShowRow, ReplayRow, CheckRow
 ghost use Rattle.diagnose_cli.specs.CheapRows.{CheapRows};
 ghost use Rattle.diagnose_cli.specs.TwinRows.{TwinRows};
 ghost use Rattle.diagnose_cli.specs.VerdictRows.{VerdictRows};
-ghost use Rattle.diagnose_cli.specs.Run.{CallsNone, Does, LeavesAlone, Ran};
+ghost use Rattle.diagnose_cli.specs.Run.{CallsNone, LeavesAlone, Ran, Responds};
 ghost use Rattle.telling.specs.Telling.{RisesExactlyIf};
 
 use crate::answering::{Answering, answer_as};
@@ -76,10 +76,7 @@ fn respond<F: Shelf, S: Sink>(
     book: &mut Ledger,
 ) -> u8
     requires { book.old.entries ≡ [] }
-    ensures does { Does (outcome (loads F.held F.faults shelf.old shelf.new) words.now (S.taken out.old) (S.taken out.new) book.new.entries result) (Rose (S.faults out.old) (S.faults out.new)) }
-    ensures left_alone { LeavesAlone words.now result shelf.old shelf.new book.old book.new }
-    ensures left { LeftRow (outcome (loads F.held F.faults shelf.old shelf.new) words.now (S.taken out.old) (S.taken out.new) book.new.entries result) }
-    ensures failures { RisesExactlyIf (result ≡ 4) (S.failures out.old) (S.failures out.new) }
+    ensures { Responds (outcome (loads F.held F.faults shelf.old shelf.new) words.now (S.taken out.old) (S.taken out.new) book.new.entries result) (Rose (S.faults out.old) (S.faults out.new)) shelf.old shelf.new book.old book.new (S.failures out.old) (S.failures out.new) }
 {
     if words.len() == 0 {
         return put_usage(alloc, words, shelf, out, book);
@@ -112,10 +109,7 @@ fn put_usage<F: Shelf, S: Sink>(
 ) -> u8
     requires none { CallsNone _words.now }
     requires empty { _book.old.entries ≡ [] }
-    ensures does { Does (outcome (loads F.held F.faults _shelf.old _shelf.new) _words.now (S.taken out.old) (S.taken out.new) _book.new.entries result) (Rose (S.faults out.old) (S.faults out.new)) }
-    ensures left_alone { LeavesAlone _words.now result _shelf.old _shelf.new _book.old _book.new }
-    ensures left { LeftRow (outcome (loads F.held F.faults _shelf.old _shelf.new) _words.now (S.taken out.old) (S.taken out.new) _book.new.entries result) }
-    ensures failures { RisesExactlyIf (result ≡ 4) (S.failures out.old) (S.failures out.new) }
+    ensures { Responds (outcome (loads F.held F.faults _shelf.old _shelf.new) _words.now (S.taken out.old) (S.taken out.new) _book.new.entries result) (Rose (S.faults out.old) (S.faults out.new)) _shelf.old _shelf.new _book.old _book.new (S.failures out.old) (S.failures out.new) }
 {
     put_once(alloc, Err(Stop::Usage), out)
 }
@@ -130,10 +124,7 @@ fn put_reply<C: Answering + Drop, F: Shelf, S: Sink>(
 ) -> u8
     requires name { word_at words.now 0 ≡ C.named.name }
     requires empty { book.old.entries ≡ [] }
-    ensures does { Does (outcome (loads F.held F.faults shelf.old shelf.new) words.now (S.taken out.old) (S.taken out.new) book.new.entries result) (Rose (S.faults out.old) (S.faults out.new)) }
-    ensures left_alone { LeavesAlone words.now result shelf.old shelf.new book.old book.new }
-    ensures left { LeftRow (outcome (loads F.held F.faults shelf.old shelf.new) words.now (S.taken out.old) (S.taken out.new) book.new.entries result) }
-    ensures failures { RisesExactlyIf (result ≡ 4) (S.failures out.old) (S.failures out.new) }
+    ensures { Responds (outcome (loads F.held F.faults shelf.old shelf.new) words.now (S.taken out.old) (S.taken out.new) book.new.entries result) (Rose (S.faults out.old) (S.faults out.new)) shelf.old shelf.new book.old book.new (S.failures out.old) (S.failures out.new) }
 {
     let ending = answer_as::<C, F>(alloc, words, shelf, book);
     put_once(alloc, ending, out)
@@ -149,10 +140,7 @@ fn put_session<F: Shelf, S: Sink>(
 ) -> u8
     requires name { word_at words.now 0 ≡ session.name }
     requires empty { book.old.entries ≡ [] }
-    ensures does { Does (outcome (loads F.held F.faults shelf.old shelf.new) words.now (S.taken out.old) (S.taken out.new) book.new.entries result) (Rose (S.faults out.old) (S.faults out.new)) }
-    ensures left_alone { LeavesAlone words.now result shelf.old shelf.new book.old book.new }
-    ensures left { LeftRow (outcome (loads F.held F.faults shelf.old shelf.new) words.now (S.taken out.old) (S.taken out.new) book.new.entries result) }
-    ensures failures { RisesExactlyIf (result ≡ 4) (S.failures out.old) (S.failures out.new) }
+    ensures { Responds (outcome (loads F.held F.faults shelf.old shelf.new) words.now (S.taken out.old) (S.taken out.new) book.new.entries result) (Rose (S.faults out.old) (S.faults out.new)) shelf.old shelf.new book.old book.new (S.failures out.old) (S.failures out.new) }
 {
     match read_limits(words) {
         Some(limits) => session_command(alloc, words, shelf, limits, out, book),
@@ -170,10 +158,7 @@ fn put_verdicts<F: Shelf, S: Sink>(
 ) -> u8
     requires name { word_at words.now 0 ≡ verdicts.name }
     requires empty { book.old.entries ≡ [] }
-    ensures does { Does (outcome (loads F.held F.faults shelf.old shelf.new) words.now (S.taken out.old) (S.taken out.new) book.new.entries result) (Rose (S.faults out.old) (S.faults out.new)) }
-    ensures left_alone { LeavesAlone words.now result shelf.old shelf.new book.old book.new }
-    ensures left { LeftRow (outcome (loads F.held F.faults shelf.old shelf.new) words.now (S.taken out.old) (S.taken out.new) book.new.entries result) }
-    ensures failures { RisesExactlyIf (result ≡ 4) (S.failures out.old) (S.failures out.new) }
+    ensures { Responds (outcome (loads F.held F.faults shelf.old shelf.new) words.now (S.taken out.old) (S.taken out.new) book.new.entries result) (Rose (S.faults out.old) (S.faults out.new)) shelf.old shelf.new book.old book.new (S.failures out.old) (S.failures out.new) }
 {
     match read_limits(words) {
         Some(limits) => verdicts_command(alloc, words, shelf, limits, out, book),

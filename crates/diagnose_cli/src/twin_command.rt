@@ -82,6 +82,7 @@ impl Answering for TwinCommand {
 }
 
 // The reply to a twin question that is not too large.
+#[tactic(auto, using(crate::proofs::TwinAnswers::twin_known))]
 fn reply_about(
     alloc: Global,
     net: &Network,

@@ -1,6 +1,5 @@
 -- By how many words there are, and what they spell.
-use Rattle.std.proofs.Common.{◌∙◌, Option, ap, sym}
-use Rattle.std.specs.Prelude.{option_map}
+use Rattle.std.proofs.Common.{◌∙◌, Option, ap, sym, option_map}
 use Rattle.endings.specs.Files.{loads}
 use Rattle.diagnose_cli.specs.Tasks.{one}
 use Rattle.diagnose_cli.proofs.Called.{not_spelled, reads_all, too_many}

@@ -7,20 +7,20 @@ use Rattle.diagnose_cli.specs.Due.{Due, HasNotBegun, StopsEmpty}
 use Rattle.diagnose_cli.proofs.Once.{done, once_empty, stop_left}
 use Rattle.diagnose_cli.proofs.run.put_reply.Goals as goal
 
-pub returns-clause-does : goal.returns-clause-does
-returns-clause-does g c =
+pub returns : goal.returns
+returns g c =
     let l = loads g.F.Shelf.held g.F.Shelf.faults c.args.shelf.now c.answer_as-ending.new.shelf in
     let words = c.args.words.now in
     let book = c.answer_as-ending.new.book.entries in
-    let due = c.answer_as-ending.ensures.due in
+    let answered = c.answer_as-ending.ensures in
+    let due = answered.due in
     let r = c.answer_as-ending.result in
-    done l words (g.S.Sink.taken c.args.out.now) (g.S.Sink.taken c.put_once.new.out) book c.put_once.result _
-    (speaks_once (StopsEmpty (Due l words book) book) (HasNotBegun words book) due.begun r _ _ _ _ (λ never. once_empty (Due l words book) book r _ never c.answer_as-ending.ensures.stopped (λ same. ap (λ b. b.entries) same ∙ c.requires.empty) (due.due never)) c.put_once.ensures.puts
-    (IfOk-weaker r _ _ (λ reply cut. record { comes = cut; empty = tt }) due.cut))
-
-pub returns-clause-left_alone : goal.returns-clause-left_alone
-returns-clause-left_alone g c = record {
-  no_load = c.answer_as-ending.ensures.no_load;
-  no_question = c.answer_as-ending.ensures.no_question;
-  stopped = stop_left c.answer_as-ending.result _ _ _ _ _ c.put_once.ensures.puts c.answer_as-ending.ensures.stopped;
-}
+    let puts = c.put_once.ensures.puts in
+    record {
+      does = done l words (g.S.Sink.taken c.args.out.now) (g.S.Sink.taken c.put_once.new.out) book c.put_once.result _
+          (speaks_once (StopsEmpty (Due l words book) book) (HasNotBegun words book) due.begun r _ _ _ _ (λ never. once_empty (Due l words book) book r _ never answered.stopped (λ same. ap (λ b. b.entries) same ∙ c.requires.empty) (due.due never)) puts
+          (IfOk-weaker r _ _ (λ reply cut. record { comes = cut; empty = tt }) due.cut));
+      left_alone = record { no_load = answered.no_load; no_question = answered.no_question; stopped = stop_left r _ _ _ _ _ puts answered.stopped };
+      left = answered.left;
+      failures = c.put_once.ensures.failures;
+    }

@@ -6,12 +6,13 @@ use Rattle.diagnose_cli.proofs.Dues.{asks_all}
 use Rattle.diagnose_cli.proofs.Once.{done}
 use Rattle.diagnose_cli.proofs.run.put_session.Goals as goal
 
-pub session_command-requires-clause-called : goal.session_command-requires-clause-called
-session_command-requires-clause-called g c = record { name = c.requires.name; read = sym c.read_limits.ensures.spelled ∙ c.in-Some.is }
-
-pub returns-in-Some-clause-does : goal.returns-in-Some-clause-does
-returns-in-Some-clause-does g c =
-    done (loads g.F.Shelf.held g.F.Shelf.faults c.args.shelf.now c.session_command.new.shelf) c.args.words.now (g.S.Sink.taken c.args.out.now) (g.S.Sink.taken c.session_command.new.out) c.session_command.new.book.entries c.session_command.result _ c.session_command.ensures.speaks
-
-pub returns-in-Some-clause-left_alone : goal.returns-in-Some-clause-left_alone
-returns-in-Some-clause-left_alone g c = asks_all session c.args.words.now refl c.in-Some.limits (record { name = c.requires.name; read = sym c.read_limits.ensures.spelled ∙ c.in-Some.is }) (λ none. cc) (λ none. cc) _ _ _ _ _ c.session_command.ensures.stopped
+pub returns-in-Some : goal.returns-in-Some
+returns-in-Some g c =
+    let words = c.args.words.now in
+    let told = c.session_command in
+    record {
+      does = done (loads g.F.Shelf.held g.F.Shelf.faults c.args.shelf.now told.new.shelf) words (g.S.Sink.taken c.args.out.now) (g.S.Sink.taken told.new.out) told.new.book.entries told.result _ told.ensures.speaks;
+      left_alone = asks_all session words refl c.in-Some.limits (record { name = c.requires.name; read = sym c.read_limits.ensures.spelled ∙ c.in-Some.is }) (λ none. cc) (λ none. cc) _ _ _ _ _ told.ensures.stopped;
+      left = told.ensures.left;
+      failures = told.ensures.failures;
+    }

@@ -1,4 +1,5 @@
 -- That they call no command is due.
+use Rattle.std.proofs.Common.{refl}
 use Rattle.endings.specs.Files.{loads}
 use Rattle.endings.specs.declared.stop.Stop.TheVariants.{Usage}
 use Rattle.diagnose_cli.specs.Due.{Due, HasNotBegun}
@@ -7,16 +8,16 @@ use Rattle.diagnose_cli.proofs.Once.{done}
 use Rattle.diagnose_cli.proofs.SessionAnswers.{stop_speaks}
 use Rattle.diagnose_cli.proofs.run.put_usage.Goals as goal
 
-pub returns-clause-does : goal.returns-clause-does
-returns-clause-does g c =
+pub returns : goal.returns
+returns g c =
     let l = loads g.F.Shelf.held g.F.Shelf.faults c.args._shelf.now c.args._shelf.now in
     let words = c.args._words.now in
     let book = c.args._book.now.entries in
-    let due = usage_is_due l words book (nothing_called words c.requires.none) in
-    done l words (g.S.Sink.taken c.args.out.now) (g.S.Sink.taken c.put_once.new.out) book c.put_once.result _
-    (stop_speaks (Due l words book) (HasNotBegun words book) book Usage due.begun c.requires.empty due.due _ _ _ _ c.put_once.ensures.puts)
-
-pub returns-clause-left : goal.returns-clause-left
-returns-clause-left g c =
-    let l = loads g.F.Shelf.held g.F.Shelf.faults c.args._shelf.now c.args._shelf.now in
-    usage_left l c.args._words.now c.args._book.now.entries (nothing_called c.args._words.now c.requires.none)
+    let none = nothing_called words c.requires.none in
+    let due = usage_is_due l words book none in
+    record {
+      does = done l words (g.S.Sink.taken c.args.out.now) (g.S.Sink.taken c.put_once.new.out) book c.put_once.result _ (stop_speaks (Due l words book) (HasNotBegun words book) book Usage due.begun c.requires.empty due.due _ _ _ _ c.put_once.ensures.puts);
+      left_alone = record { no_load = λ none. refl; no_question = λ none. refl; stopped = λ stop. refl };
+      left = usage_left l words book none;
+      failures = c.put_once.ensures.failures;
+    }

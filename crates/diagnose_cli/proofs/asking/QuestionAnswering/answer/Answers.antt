@@ -3,13 +3,9 @@ use Rattle.std.proofs.Common.{Err, Ok, arith}
 use Rattle.endings.specs.Transcripts.{Ending, IsOne, once}
 use Rattle.endings.specs.declared.stop.Stop.TheVariants.{Large}
 use Rattle.replay.specs.QuestionSize.{question_size}
-use Rattle.diagnose_cli.specs.Commands.{asking}
 use Rattle.diagnose_cli.specs.Questions.{AnswersTo}
-use Rattle.diagnose_cli.specs.Tasks.{told_once}
-use Rattle.diagnose_cli.proofs.Left.{empty_left}
 use Rattle.diagnose_cli.proofs.Limits.{ends_large, ends_said}
-use Rattle.diagnose_cli.proofs.Orders.{memory_free}
-use Rattle.diagnose_cli.proofs.Requested.{closes_asked, left_asked}
+use Rattle.diagnose_cli.proofs.Requested.{closes_asked}
 use Rattle.diagnose_cli.proofs.asking.QuestionAnswering.answer.Goals as goal
 
 pub returns-then-size-gt-MOST_SIZE-clause-closes : goal.returns-then-size-gt-MOST_SIZE-clause-closes
@@ -23,9 +19,6 @@ returns-then-size-gt-MOST_SIZE-clause-closes g c texts read _ =
     closes_asked question n last c.args._words.now book texts case.net case.log read e
     (ends_large _ c.question_size-size.result (IsOne (AnswersTo question last case.net case.log n book)) c.question_size-size.ensures.size (omega (arith, c.if-size-gt-MOST_SIZE.true)))
 
-pub returns-in_err-ask_by-clause-closes : goal.returns-in_err-ask_by-clause-closes
-returns-in_err-ask_by-clause-closes g c texts read = memory_free _ _ c.from_residual.ensures.1
-
 pub returns-clause-closes : goal.returns-clause-closes
 returns-clause-closes g c texts read _ =
     let n = c.args.self.now.steps in
@@ -36,17 +29,3 @@ returns-clause-closes g c texts read _ =
     let case = c.args.files.now in
     closes_asked question n last c.args._words.now book texts case.net case.log read (once (Ok reply))
     (ends_said (question_size case.net case.log n) c.question_size-size.result (AnswersTo question last case.net case.log n book) reply c.question_size-size.ensures.size (omega (arith, c.if-size-gt-MOST_SIZE.false)) c.in_ok-ask_by.ensures.replies)
-
-pub returns-then-size-gt-MOST_SIZE-clause-left : goal.returns-then-size-gt-MOST_SIZE-clause-left
-returns-then-size-gt-MOST_SIZE-clause-left g c texts read =
-    empty_left (told_once ((asking g.Q.Replying.question).task (c.args.self.now.steps, g.Q.Replying.word c.args.self.now.inquiry))) c.args._words.now texts c.args.book.now.entries c.requires.empty
-
-pub returns-in_err-ask_by-clause-left : goal.returns-in_err-ask_by-clause-left
-returns-in_err-ask_by-clause-left g c texts read =
-    let case = c.args.files.now in
-    left_asked g.Q.Replying.question c.args.self.now.steps (g.Q.Replying.word c.args.self.now.inquiry) c.args._words.now c.ask_by.new.book.entries texts case.net case.log read c.ask_by.ensures.left
-
-pub returns-clause-left : goal.returns-clause-left
-returns-clause-left g c texts read =
-    let case = c.args.files.now in
-    left_asked g.Q.Replying.question c.args.self.now.steps (g.Q.Replying.word c.args.self.now.inquiry) c.args._words.now c.ask_by.new.book.entries texts case.net case.log read c.ask_by.ensures.left

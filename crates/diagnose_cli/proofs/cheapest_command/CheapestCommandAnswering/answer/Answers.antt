@@ -14,9 +14,7 @@ use Rattle.diagnose_cli.specs.CheapReplies.{SaysCheap}
 use Rattle.diagnose_cli.specs.Tasks.{told_once}
 use Rattle.diagnose_cli.specs.Due.{Closes, Says}
 use Rattle.diagnose_cli.proofs.CheapAnswers.{may_price, priced, prices_left}
-use Rattle.diagnose_cli.proofs.Left.{empty_left}
 use Rattle.diagnose_cli.proofs.Limits.{ends_large, ends_within}
-use Rattle.diagnose_cli.proofs.Orders.{memory_free}
 use Rattle.diagnose_cli.proofs.ReadOver.{over_third}
 use Rattle.diagnose_cli.proofs.cheapest_command.CheapestCommandAnswering.answer.Goals as goal
 
@@ -29,9 +27,6 @@ returns-then-size-gt-MOST_SIZE-clause-closes c texts read _ =
     over_third (λ ts. Closes (told_once (priced n budget)) c.args._words.now book ts (Err (Large k))) texts (λ (net : Net) (log : Log). (k ≡ cost_size net log n) × (MOST_SIZE < k))
     (λ (net : Net) prices (table : List (Option ℕ)). IsTableOf net prices table) c.args.files.now.table (λ text alarms prices of h. ends_large (cost_size (network_of text) (log_of alarms) n) k (Says (told_once (priced n budget)) c.args._words.now book (text ∷ alarms ∷ prices ∷ [])) h.0 h.1) c.args.files.now.case read
     (c.cost_size-size.ensures.size, omega (arith, c.if-size-gt-MOST_SIZE.true))
-
-pub returns-in_err-reply_to_costs-clause-closes : goal.returns-in_err-reply_to_costs-clause-closes
-returns-in_err-reply_to_costs-clause-closes c texts read = memory_free _ _ c.from_residual.ensures.1
 
 pub returns-clause-closes : goal.returns-clause-closes
 returns-clause-closes c texts read _ =
@@ -46,10 +41,6 @@ returns-clause-closes c texts read _ =
     (λ text alarms prices of h.
     ends_within (cost_size (network_of text) (log_of alarms) n) k (Says (told_once (priced n budget)) c.args._words.now book (text ∷ alarms ∷ prices ∷ [])) (once (Ok reply)) h.0 h.1 (may_price n budget c.args._words.now book text alarms prices table reply of h.2))
     c.args.files.now.case read (c.cost_size-size.ensures.size, omega (arith, c.if-size-gt-MOST_SIZE.false), c.in_ok-reply_to_costs.ensures.says)
-
-pub returns-then-size-gt-MOST_SIZE-clause-left : goal.returns-then-size-gt-MOST_SIZE-clause-left
-returns-then-size-gt-MOST_SIZE-clause-left c texts read =
-    empty_left (told_once (priced c.args.self.now.limits.steps c.args.self.now.limits.budget)) c.args._words.now texts c.args.book.now.entries c.requires.empty
 
 pub returns-in_err-reply_to_costs-clause-left : goal.returns-in_err-reply_to_costs-clause-left
 returns-in_err-reply_to_costs-clause-left c = prices_left c.args.self.now.limits.steps c.args.self.now.limits.budget c.args._words.now c.reply_to_costs.new.book.entries c.args.files.now.case c.args.files.now.table c.reply_to_costs.ensures.left

@@ -16,12 +16,8 @@ use Rattle.diagnose_cli.specs.Tasks.{told_once}
 use Rattle.diagnose_cli.specs.Due.{Closes}
 use Rattle.diagnose_cli.specs.Replies.{SaysReplayed, reply_of_replayed}
 use Rattle.diagnose_cli.proofs.Ones.{may_say}
-use Rattle.diagnose_cli.proofs.Orders.{memory_free}
 use Rattle.diagnose_cli.proofs.ReadOver.{over_third}
 use Rattle.diagnose_cli.proofs.replay_command.ReplayCommandAnswering.answer.Goals as goal
-
-pub returns-in_err-replay_run-clause-closes : goal.returns-in_err-replay_run-clause-closes
-returns-in_err-replay_run-clause-closes c texts read = memory_free _ _ c.from_residual.ensures.1
 
 pub returns-clause-closes : goal.returns-clause-closes
 returns-clause-closes c texts read never =

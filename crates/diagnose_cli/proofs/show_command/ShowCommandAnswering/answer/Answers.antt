@@ -10,12 +10,8 @@ use Rattle.diagnose_cli.specs.Tasks.{told_once}
 use Rattle.diagnose_cli.specs.Due.{Closes}
 use Rattle.diagnose_cli.specs.Replies.{reply_of_model}
 use Rattle.diagnose_cli.proofs.Ones.{may_say}
-use Rattle.diagnose_cli.proofs.Orders.{memory_free}
 use Rattle.diagnose_cli.proofs.ReadOver.{over_model}
 use Rattle.diagnose_cli.proofs.show_command.ShowCommandAnswering.answer.Goals as goal
-
-pub returns-in_err-reply_of_model-clause-closes : goal.returns-in_err-reply_of_model-clause-closes
-returns-in_err-reply_of_model-clause-closes c texts read = memory_free _ _ c.from_residual.ensures.1
 
 pub returns-clause-closes : goal.returns-clause-closes
 returns-clause-closes c texts read never =

@@ -5,12 +5,8 @@ use Rattle.endings.specs.Transcripts.{IsOne, once}
 use Rattle.endings.specs.declared.stop.Stop.TheVariants.{Large}
 use Rattle.event_costs.specs.CostText.{fault_event_of}
 use Rattle.twin_test.specs.Twins.{twin_size}
-use Rattle.diagnose_cli.specs.Commands.{twin}
-use Rattle.diagnose_cli.specs.Tasks.{told_once}
 use Rattle.diagnose_cli.specs.TwinReplies.{SaysOfWord}
-use Rattle.diagnose_cli.proofs.Left.{empty_left}
 use Rattle.diagnose_cli.proofs.Limits.{ends_large, ends_said}
-use Rattle.diagnose_cli.proofs.Orders.{memory_free}
 use Rattle.diagnose_cli.proofs.TwinAnswers.{ends_about, fault_left, lacks, none_of, of_word}
 use Rattle.diagnose_cli.proofs.twin_command.TwinCommandAnswering.answer.Goals as goal
 
@@ -25,9 +21,6 @@ returns-then-size-gt-MOST_SIZE-clause-closes c texts read _ =
     ends_about limits.steps limits.after limits.budget c.args.words.now c.args.book.now.entries texts c.args.files.now read c.in-Some.fault (sym c.in-Some.is ∙ c.find_fault.ensures.event ∙ ap (fault_event_of c.args.files.now) (c.as_bytes.ensures.value ∙ c.word.ensures)) (Err (Large c.twin_size-size.result))
     (ends_large (twin_size c.args.files.now limits.steps limits.after) c.twin_size-size.result (IsOne (SaysOfWord c.args.files.now (word_at c.args.words.now 2) limits.steps limits.after limits.budget c.args.book.now.entries)) c.twin_size-size.ensures.size (omega (arith, c.if-size-gt-MOST_SIZE.true)))
 
-pub returns-in_err-reply_about-clause-closes : goal.returns-in_err-reply_about-clause-closes
-returns-in_err-reply_about-clause-closes c texts read = memory_free _ _ c.from_residual.ensures.1
-
 pub returns-clause-closes : goal.returns-clause-closes
 returns-clause-closes c texts read _ =
     let limits = c.args.self.now in
@@ -39,12 +32,6 @@ returns-clause-closes c texts read _ =
     ends_about limits.steps limits.after limits.budget words book texts net read c.in-Some.fault named (once (Ok reply))
     (ends_said (twin_size net limits.steps limits.after) c.twin_size-size.result (SaysOfWord net (word_at words 2) limits.steps limits.after limits.budget book) reply c.twin_size-size.ensures.size (omega (arith, c.if-size-gt-MOST_SIZE.false))
     (of_word limits.steps limits.after limits.budget words book texts net read c.in-Some.fault named reply c.in_ok-reply_about.ensures.says))
-
-pub returns-in_default-clause-left : goal.returns-in_default-clause-left
-returns-in_default-clause-left c texts read = empty_left (told_once (twin.task c.args.self.now)) c.args.words.now texts c.args.book.now.entries c.requires.empty
-
-pub returns-then-size-gt-MOST_SIZE-clause-left : goal.returns-then-size-gt-MOST_SIZE-clause-left
-returns-then-size-gt-MOST_SIZE-clause-left c texts read = empty_left (told_once (twin.task c.args.self.now)) c.args.words.now texts c.args.book.now.entries c.requires.empty
 
 pub returns-in_err-reply_about-clause-left : goal.returns-in_err-reply_about-clause-left
 returns-in_err-reply_about-clause-left c texts read =
