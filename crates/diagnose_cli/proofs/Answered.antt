@@ -11,7 +11,7 @@ use Rattle.endings.specs.Transcripts.{End, said, cut, broken, Ending, EndsOne, T
 use Rattle.endings.specs.Endings.{HasStatus, status_of_end, status_of_kind, ending_texts}
 use Rattle.endings.specs.Files.{Loads, StopsAt, WithFile}
 use Rattle.endings.specs.Texts.{FileKind, limit_of, fault_of_text}
-use Rattle.diagnose_cli.specs.Commands.{IsListed, command_of}
+use Rattle.diagnose_cli.specs.Commands.{IsInList, command_of}
 use Rattle.diagnose_cli.specs.Tasks.{Called, Calls, MatchCalled, NamedCommand, Reply, Task, one, told_once}
 use Rattle.diagnose_cli.specs.Due.{halts, Says, Closes, InOrder, MayAnswer}
 use Rattle.diagnose_cli.specs.FilesRead.{AreBytes}
@@ -141,7 +141,7 @@ module _ (o : Outcome) (t : Task Transcript) where
 
 -- ---- with one reply
 
-module _ (o : Outcome) (ends : o.status ≢ 4 → Ends o) (c : NamedCommand Reply) (listed : IsListed (one c) o.words) (word : c.Word) (texts : List (List ℕ)) where
+module _ (o : Outcome) (ends : o.status ≢ 4 → Ends o) (c : NamedCommand Reply) (listed : IsInList (one c) o.words) (word : c.Word) (texts : List (List ℕ)) where
   abbrev task : Task Transcript
   task = told_once (c.task word)
 

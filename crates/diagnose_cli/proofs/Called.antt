@@ -5,7 +5,7 @@ use Rattle.std.proofs.lemmas.Slice.Eq.{bytes_eq-Decides}
 use Rattle.std.specs.Prelude.{⊤, cond}
 use Rattle.des_base.specs.CommandWords.{word_at}
 use Rattle.endings.specs.Transcripts.{Transcript}
-use Rattle.diagnose_cli.specs.Commands.{IsListed, command_of, named_commands}
+use Rattle.diagnose_cli.specs.Commands.{IsInList, command_of, named_commands}
 use Rattle.diagnose_cli.specs.Tasks.{AreWords, Called, Calls, MatchCalled, NamedCommand, NoCommand, called_among, calls_by, read_words}
 
 -- ---- what so many words spell
@@ -33,7 +33,7 @@ module _ {S : Type 0} (c : NamedCommand S) (words : List (List ℕ)) where
 
 -- ---- what they call
 
-module _ (c : NamedCommand Transcript) (words : List (List ℕ)) (listed : IsListed c words) where
+module _ (c : NamedCommand Transcript) (words : List (List ℕ)) (listed : IsInList c words) where
   pub called_by_name : word_at words 0 ≡ c.name → command_of words ≡ calls_by c (read_words c words)
   called_by_name name = ap (λ (n : List ℕ). called_among named_commands n words) name ∙ listed
 

@@ -7,7 +7,7 @@ use Rattle.endings.specs.Transcripts.{Ending, Transcript, UnlessMemory, cut_shor
 use Rattle.endings.specs.declared.stop.Stop.{Stop}
 use Rattle.endings.specs.declared.stop.Stop.TheVariants.{Usage, Memory}
 use Rattle.proof_ledger.specs.Book.{BookEntry}
-use Rattle.diagnose_cli.specs.Commands.{IsListed, command_of}
+use Rattle.diagnose_cli.specs.Commands.{IsInList, command_of}
 use Rattle.diagnose_cli.specs.Due.{Closes, Due, IsDue, MayAnswer}
 use Rattle.diagnose_cli.specs.FilesRead.{AreBytes, StopsAmong}
 use Rattle.diagnose_cli.specs.Rows.{Leaves, LeftBy}
@@ -55,7 +55,7 @@ module _ (l : Loads) (words : List (List ℕ)) (t : Task Reply) (book : List Boo
   is_due r h = record { due = λ never. due_for l words (told_once t) book (once r) called (h never); cut = cut_due r h; begun = begun_for words (Calls (told_once t)) book called tt }
 
 -- by the kinds of its files
-module _ (c : NamedCommand Reply) (words : List (List ℕ)) (listed : IsListed (one c) words) (word : c.Word) (are : AreWords (one c) word words) (kinds : List FileKind) (has : (w : c.Word) → (c.task w).files ≡ kinds) where
+module _ (c : NamedCommand Reply) (words : List (List ℕ)) (listed : IsInList (one c) words) (word : c.Word) (are : AreWords (one c) word words) (kinds : List FileKind) (has : (w : c.Word) → (c.task w).files ≡ kinds) where
   abbrev task : Task Transcript
   task = told_once (c.task word)
 
@@ -92,7 +92,7 @@ module _ (c : NamedCommand Reply) (words : List (List ℕ)) (listed : IsListed (
 
 -- ---- a command with several replies, which has files and asks a question
 
-pub asks_all : {F B : Type 0} (c : NamedCommand Transcript) (words : List (List ℕ)) → IsListed c words → (word : c.Word) → AreWords c word words → (c.task word).files ≢ [] → (c.task word).asks ≢ false
+pub asks_all : {F B : Type 0} (c : NamedCommand Transcript) (words : List (List ℕ)) → IsInList c words → (word : c.Word) → AreWords c word words → (c.task word).files ≢ [] → (c.task word).asks ≢ false
     → (status : ℕ) (shelf later : F) (book left : B) → (SaysStop status → left ≡ book) → LeavesAlone words status shelf later book left
 asks_all c words listed word are files asks status shelf later book left stopped =
     let called = called_so c words listed word are in

@@ -1,5 +1,5 @@
 -- Each file that is too long and each fault of a text has its status.
-use Rattle.std.proofs.Common.{◌≡◌, ◌≢◌, inl, inr, ℕ, ◌+◌, ◌<◌, ◌≤◌, List, [], ◌∷◌, ◌++◌, length, Bool, nat_lt, Option, Some, None, Ok, Err, IfSome, IsOkAnd, MatchOption, IsErrAnd, refl, sym, ap, subst, if◌then◌else◌, option_and_then}
+use Rattle.std.proofs.Common.{◌≡◌, ◌≢◌, inl, inr, ℕ, ◌+◌, ◌<◌, ◌≤◌, List, [], ◌∷◌, ◌++◌, length, Bool, nat_lt, Option, Some, None, Err, IfSome, IsOkAnd, MatchOption, IsErrAnd, refl, sym, ap, subst, if◌then◌else◌, option_and_then}
 use Rattle.des_base.specs.Outside.{Took}
 use Rattle.des_base.specs.CommandWords.{word_at}
 use Rattle.proof_ledger.specs.Book.{BookEntry}

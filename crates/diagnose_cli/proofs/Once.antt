@@ -10,7 +10,7 @@ use Rattle.endings.specs.Endings.{HasStatus, status_of_stop}
 use Rattle.endings.specs.Files.{Loads}
 use Rattle.endings.specs.Puts.{Puts, Speaks}
 use Rattle.diagnose_cli.specs.declared.generate_command.PlantText.TheVariants.{Model, Log}
-use Rattle.diagnose_cli.specs.Commands.{IsListed, asking, bench, generate, replay, show, trace}
+use Rattle.diagnose_cli.specs.Commands.{IsInList, asking, bench, generate, replay, show, trace}
 use Rattle.diagnose_cli.specs.Due.{Due, HasNotBegun, StopsEmpty}
 use Rattle.diagnose_cli.specs.Outcomes.{Outcome, outcome}
 use Rattle.diagnose_cli.specs.Questions.{NamedQuestion, cnf_question, diagnose_question, proof_question}
@@ -43,11 +43,11 @@ module _ (o : Outcome) (rose : Type 0) (speaks : Speaks (StopsEmpty (Due o.loads
     decided = decided_row o speaks.ends;
   }
 
-  asked : (question : NamedQuestion) → IsListed (one (asking question)) o.words → (steps : ℕ) (last : question.Word) (text alarms : List ℕ) → Row o (asking question) (steps, last) (text ∷ alarms ∷ [])
+  asked : (question : NamedQuestion) → IsInList (one (asking question)) o.words → (steps : ℕ) (last : question.Word) (text alarms : List ℕ) → Row o (asking question) (steps, last) (text ∷ alarms ∷ [])
   asked question listed steps last text alarms = row o speaks.ends (asking question) listed (steps, last) (text ∷ alarms ∷ [])
 
   -- without files
-  row_alone : (c : NamedCommand Reply) → IsListed (one c) o.words → (word : c.Word) → (c.task word).files ≡ [] → RowAlone o c word
+  row_alone : (c : NamedCommand Reply) → IsInList (one c) o.words → (word : c.Word) → (c.task word).files ≡ [] → RowAlone o c word
   row_alone c listed word none reads put =
       let loaded = no_load_failed o speaks.ends (told_once (c.task word)) (called_so (one c) o.words listed word reads.called) none in
       row o speaks.ends c listed word [] reads (record { loaded = loaded; put = put })

@@ -12,8 +12,6 @@ use Rattle.proof_ledger.specs.declared.checker.Checked.{Checked}
 use Rattle.proof_text.specs.CnfText.{Formula, formula}
 use Rattle.proof_text.specs.LratText.{proof_of}
 use Rattle.proof_text.specs.declared.cnf.Cnf.{Cnf}
-use Rattle.replay.specs.RunText.{run_of}
-use Rattle.replay.specs.declared.run.RunStep.{RunStep}
 use Rattle.endings.specs.Texts.{fault_of_model}
 use Rattle.diagnose_cli.specs.FilesRead.{AreReadThen, IsCaseRead, IsFormulaRead, IsModelRead, IsProofChecked}
 

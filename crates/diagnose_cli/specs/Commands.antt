@@ -256,5 +256,5 @@ abbrev pub command_of : List (List ℕ) → Called
 command_of words = called_among named_commands (word_at words 0) words
 
 -- it stands in the list
-abbrev pub IsListed : NamedCommand Transcript → List (List ℕ) → Type 1
-IsListed c words = called_among named_commands c.name words ≡ calls_by c (read_words c words)
+abbrev pub IsInList : NamedCommand Transcript → List (List ℕ) → Type 1
+IsInList c words = called_among named_commands c.name words ≡ calls_by c (read_words c words)

@@ -1,7 +1,7 @@
 // A command with one reply: its words are read, then its files, and it answers over them.
 ghost use Rattle.std.specs.Prelude.{◌≡◌, ◌≢◌, ℕ, List, [], true, false, length, nat_lt, option_map, IfErr, IfSome, ⊤};
 ghost use Rattle.des_base.specs.CommandWords.{word_at};
-ghost use Rattle.diagnose_cli.specs.Commands.{IsListed};
+ghost use Rattle.diagnose_cli.specs.Commands.{IsInList};
 ghost use Rattle.diagnose_cli.specs.Due.{Closes, IsDue};
 ghost use Rattle.diagnose_cli.specs.Rows.{Leaves, LeftBy};
 ghost use Rattle.diagnose_cli.specs.Run.{AsksNone, LoadsNone};
@@ -24,7 +24,7 @@ pub trait Answering {
     ghost named: { NamedCommand OneReply };
 
     /// It stands in the list.
-    ghost listed: { (words : List (List ℕ)) → IsListed (one named) words };
+    ghost listed: { (words : List (List ℕ)) → IsInList (one named) words };
 
     /// What its words spell.
     ghost word: { Self → named.Word };

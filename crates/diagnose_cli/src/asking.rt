@@ -2,7 +2,7 @@
 ghost use Rattle.std.specs.Prelude.{◌≡◌, ◌≤◌, ℕ, List, [], option_map, IfOk, refl};
 ghost use Rattle.des_base.specs.declared.TheConstants.{MOST_STEPS};
 ghost use Rattle.diagnose_cli.specs.Questions.{AnswersTo, NamedQuestion};
-ghost use Rattle.diagnose_cli.specs.Commands.{IsListed, asking};
+ghost use Rattle.diagnose_cli.specs.Commands.{IsInList, asking};
 ghost use Rattle.diagnose_cli.specs.Tasks.{one};
 ghost use Rattle.des_net.specs.Network.{Net};
 ghost use Rattle.inquiries.specs.Begun.{HasQuestion, LeavesQuestion, MayLearn};
@@ -25,7 +25,7 @@ use std::alloc::Global;
 pub trait Replying: Inquiry {
     ghost question: { NamedQuestion };
 
-    ghost listed: { (words : List (List ℕ)) → IsListed (one (asking question)) words };
+    ghost listed: { (words : List (List ℕ)) → IsInList (one (asking question)) words };
 
     ghost word: { Self → question.Word };
 

@@ -5,12 +5,12 @@ use Rattle.std.proofs.lemmas.Grind.{common_steps}
 use Rattle.std.proofs.lemmas.Bool.{eqb-true, ltb-true, ltb-false, lt-ltb, le-ltb, eq-eqb, ne_eqb, cases_lt, cases_eq, cases_order}
 use Rattle.sat_order.specs.declared.queue.Run.{Run}
 use Rattle.sat_order.specs.Waiting.{rank_of, waits, ComesFirst, IsNext, NoneWaits}
-use Rattle.sat_order.specs.Queue.{IsRun, AreRuns, IsQueue, longer, run_place, lowered, first_waiting, moved_on, better_run, best_run}
+use Rattle.sat_order.specs.Queue.{IsRankRun, AreRuns, IsQueue, lengthened, run_place, lowered, first_waiting, moved_on, better_run, best_run}
 
 -- runs stay what they are where their variables keep their ranks, and those that didn't wait don't
-IsRun-kept : (ranks new : List ℕ) (waiting now : List Bool) (first last : ℕ) (run : Run) → run.end ≤ last → ((var : ℕ) → var < last → rank_of new var ≡ rank_of ranks var) →
-    ((var : ℕ) → first ≤ var → var < last → waits waiting var ≡ false → waits now var ≡ false) → IsRun ranks waiting first run → IsRun new now first run
-IsRun-kept ranks new waiting now first last run e same off r = record {
+IsRankRun-kept : (ranks new : List ℕ) (waiting now : List Bool) (first last : ℕ) (run : Run) → run.end ≤ last → ((var : ℕ) → var < last → rank_of new var ≡ rank_of ranks var) →
+    ((var : ℕ) → first ≤ var → var < last → waits waiting var ≡ false → waits now var ≡ false) → IsRankRun ranks waiting first run → IsRankRun new now first run
+IsRankRun-kept ranks new waiting now first last run e same off r = record {
   from = r.from;
   upto = r.upto;
   ranked = λ var a b. same var (omega arith) ∙ r.ranked var a b;
@@ -26,12 +26,12 @@ AreRuns-kept : (ranks new : List ℕ) (waiting now : List Bool) (first last : �
 AreRuns-kept ranks new waiting now first last [] same off r = r
 AreRuns-kept ranks new waiting now first last (run ∷ runs) same off r =
     let a = r.0.from in let b = r.0.upto in (
-      IsRun-kept ranks new waiting now first last run (runs_upto ranks waiting run.end last runs r.1) same off r.0,
+      IsRankRun-kept ranks new waiting now first last run (runs_upto ranks waiting run.end last runs r.1) same off r.0,
       AreRuns-kept ranks new waiting now run.end last runs same (λ var c d e. off var (omega arith) d e) r.1,
     )
 
 -- the next variable comes in
-one_more : (ranks : List ℕ) (waiting : List Bool) (rank var : ℕ) → rank_of ranks var ≡ rank → IsRun ranks waiting var (record { rank = rank; next = var; end = var + 1 })
+one_more : (ranks : List ℕ) (waiting : List Bool) (rank var : ℕ) → rank_of ranks var ≡ rank → IsRankRun ranks waiting var (record { rank = rank; next = var; end = var + 1 })
 one_more ranks waiting rank var e = record {
   from = omega arith;
   upto = omega arith;
@@ -39,7 +39,7 @@ one_more ranks waiting rank var e = record {
   passed = λ other a b. absurd (omega arith);
 }
 
-AreRuns-longer : (ranks : List ℕ) (waiting : List Bool) (rank first var : ℕ) (runs : List Run) → rank_of ranks var ≡ rank → AreRuns ranks waiting first var runs → AreRuns ranks waiting first (var + 1) (longer runs rank var)
+AreRuns-longer : (ranks : List ℕ) (waiting : List Bool) (rank first var : ℕ) (runs : List Run) → rank_of ranks var ≡ rank → AreRuns ranks waiting first var runs → AreRuns ranks waiting first (var + 1) (lengthened runs rank var)
 AreRuns-longer ranks waiting rank first var [] e r = let f : first ≡ var = r in rw f (one_more ranks waiting rank var e, refl)
 AreRuns-longer ranks waiting rank first var (run ∷ []) e r = by (eqb run.rank rank) refl
   where
@@ -58,7 +58,7 @@ AreRuns-longer ranks waiting rank first var (run ∷ []) e r = by (eqb run.rank 
     by false t = let o : run.end ≡ var = r.1 in (r.0, rw o (one_more ranks waiting rank var e, refl))
 AreRuns-longer ranks waiting rank first var (run ∷ other ∷ runs) e r = (r.0, AreRuns-longer ranks waiting rank run.end var (other ∷ runs) e r.1)
 
-pub IsQueue-add : (ranks : List ℕ) (waiting : List Bool) (runs : List Run) (rank var : ℕ) → IsQueue ranks waiting runs → var ≡ length ranks → IsQueue (ranks ++ rank ∷ []) (waiting ++ true ∷ []) (longer runs rank var)
+pub IsQueue-add : (ranks : List ℕ) (waiting : List Bool) (runs : List Run) (rank var : ℕ) → IsQueue ranks waiting runs → var ≡ length ranks → IsQueue (ranks ++ rank ∷ []) (waiting ++ true ∷ []) (lengthened runs rank var)
 IsQueue-add ranks waiting runs rank var q e =
     let long : length (ranks ++ rank ∷ []) ≡ var + 1 = rw e (grind (arith, common_steps)) in
     let last : rank_of (ranks ++ rank ∷ []) var ≡ rank = rw e (grind (arith, common_steps)) in
@@ -213,17 +213,17 @@ IsBest ranks waiting last (Some run) = (run.next < last) × (waits waiting run.n
 abbrev IsMoved : List Bool → Run → Type 0
 IsMoved waiting run = run.next < run.end → waits waiting run.next ≡ true
 
-none_in : (ranks : List ℕ) (waiting : List Bool) (first : ℕ) (run : Run) → IsRun ranks waiting first run → run.end ≤ run.next → (other : ℕ) → first ≤ other → other < run.end → waits waiting other ≡ false
+none_in : (ranks : List ℕ) (waiting : List Bool) (first : ℕ) (run : Run) → IsRankRun ranks waiting first run → run.end ≤ run.next → (other : ℕ) → first ≤ other → other < run.end → waits waiting other ≡ false
 none_in ranks waiting first run r e other a b = r.passed other a (omega arith)
 
 not_both : (waiting : List Bool) (var : ℕ) → waits waiting var ≡ true → waits waiting var ≡ false → ⊥
 not_both waiting var on off = let e : true ≡ false = sym on ∙ off in cc
 
 -- the next of a run comes first of those that wait in it
-first_in : (ranks : List ℕ) (waiting : List Bool) (first : ℕ) (run : Run) → IsRun ranks waiting first run → (other : ℕ) → first ≤ other → other < run.end → waits waiting other ≡ true → run.next ≤ other
+first_in : (ranks : List ℕ) (waiting : List Bool) (first : ℕ) (run : Run) → IsRankRun ranks waiting first run → (other : ℕ) → first ≤ other → other < run.end → waits waiting other ≡ true → run.next ≤ other
 first_in ranks waiting first run r other a b on = ⊎_elim (λ l. absurd (not_both waiting other on (r.passed other a l))) (λ g. g) (cases_lt other run.next)
 
-of_run : (ranks : List ℕ) (waiting : List Bool) (first : ℕ) (run : Run) → IsRun ranks waiting first run → run.next < run.end → waits waiting run.next ≡ true →
+of_run : (ranks : List ℕ) (waiting : List Bool) (first : ℕ) (run : Run) → IsRankRun ranks waiting first run → run.next < run.end → waits waiting run.next ≡ true →
     ((other : ℕ) → other < first → waits waiting other ≡ true → ComesFirst run.next run.rank other (rank_of ranks other)) → IsBest ranks waiting run.end (Some run)
 of_run ranks waiting first run r n on before = (
   n,
@@ -235,7 +235,7 @@ of_run ranks waiting first run r n on before = (
       (cases_lt other first),
 )
 
-IsBest-better : (ranks : List ℕ) (waiting : List Bool) (first : ℕ) (best : Option Run) (run : Run) → IsRun ranks waiting first run → IsMoved waiting run → IsBest ranks waiting first best → IsBest ranks waiting run.end (better_run best run)
+IsBest-better : (ranks : List ℕ) (waiting : List Bool) (first : ℕ) (best : Option Run) (run : Run) → IsRankRun ranks waiting first run → IsMoved waiting run → IsBest ranks waiting first best → IsBest ranks waiting run.end (better_run best run)
 IsBest-better ranks waiting first None run r m k = by (ltb run.next run.end) refl
   where
     by : (t : Bool) → ltb run.next run.end ≡ t → IsBest ranks waiting run.end (cond t (Some run) None)
@@ -316,7 +316,7 @@ place_found var runs place run all k e f h =
     omega arith
 
 -- the last run becomes longer, or another one comes behind it
-pub longer_by_same : (runs : List Run) (place : ℕ) (run : Run) (rank var : ℕ) → length runs ≡ suc place → run ≡ get_or runs place run → run.rank ≡ rank → slice_set runs place (record { rank = run.rank; next = run.next; end = var + 1 }) ≡ longer runs rank var
+pub longer_by_same : (runs : List Run) (place : ℕ) (run : Run) (rank var : ℕ) → length runs ≡ suc place → run ≡ get_or runs place run → run.rank ≡ rank → slice_set runs place (record { rank = run.rank; next = run.next; end = var + 1 }) ≡ lengthened runs rank var
 longer_by_same [] place run rank var k e f = absurd (let z : 0 ≡ suc place = k in omega arith)
 longer_by_same (head ∷ []) zero run rank var k e f = let o : run ≡ head = e in let t : eqb head.rank rank ≡ true = eq-eqb head.rank rank (ap (λ (r : Run). r.rank) (sym o) ∙ f) in rw (o, t) refl
 longer_by_same (head ∷ []) (suc place) run rank var k e f = absurd (let z : 1 ≡ suc (suc place) = k in omega arith)
@@ -325,7 +325,7 @@ longer_by_same (head ∷ other ∷ runs) (suc place) run rank var k e f =
     let z : suc (suc (length runs)) ≡ suc (suc place) = k in
     ap (λ rest. head ∷ rest) (longer_by_same (other ∷ runs) place run rank var (let y : suc (length runs) ≡ suc place = omega arith in y) e f)
 
-pub longer_by_other : (runs : List Run) (rank var : ℕ) → ((place : ℕ) (run : Run) → length runs ≡ suc place → run ≡ get_or runs place run → run.rank ≡ rank → ⊥) → longer runs rank var ≡ runs ++ record { rank = rank; next = var; end = var + 1 } ∷ []
+pub longer_by_other : (runs : List Run) (rank var : ℕ) → ((place : ℕ) (run : Run) → length runs ≡ suc place → run ≡ get_or runs place run → run.rank ≡ rank → ⊥) → lengthened runs rank var ≡ runs ++ record { rank = rank; next = var; end = var + 1 } ∷ []
 longer_by_other [] rank var other = refl
 longer_by_other (head ∷ []) rank var other = let t : eqb head.rank rank ≡ false = ne_eqb head.rank rank (other 0 head refl refl) in rw t refl
 longer_by_other (head ∷ next ∷ runs) rank var other = ap (λ rest. head ∷ rest) (longer_by_other (next ∷ runs) rank var (λ place run k e. other (suc place) run (ap suc k) e))

@@ -10,7 +10,7 @@ pub record QueueState : Type 0 where
   pub spare : ℕ
 
 -- the variables from the first up to the end of a run have its rank, and none of them waits before the next
-pub record IsRun (ranks : List ℕ) (waiting : List Bool) (first : ℕ) (run : Run) : Type 0 where
+pub record IsRankRun (ranks : List ℕ) (waiting : List Bool) (first : ℕ) (run : Run) : Type 0 where
   pub from : first ≤ run.next
   pub upto : run.next ≤ run.end
   pub ranked : (var : ℕ) → first ≤ var → var < run.end → rank_of ranks var ≡ run.rank
@@ -19,7 +19,7 @@ pub record IsRun (ranks : List ℕ) (waiting : List Bool) (first : ℕ) (run : R
 -- runs, one after another, have the variables from the first on up to the last
 abbrev pub AreRuns : List ℕ → List Bool → ℕ → ℕ → List Run → Type 0
 AreRuns ranks waiting first last [] = first ≡ last
-AreRuns ranks waiting first last (run ∷ runs) = IsRun ranks waiting first run × AreRuns ranks waiting run.end last runs
+AreRuns ranks waiting first last (run ∷ runs) = IsRankRun ranks waiting first run × AreRuns ranks waiting run.end last runs
 
 -- runs have all variables
 pub record IsQueue (ranks : List ℕ) (waiting : List Bool) (runs : List Run) : Type 0 where
@@ -27,10 +27,10 @@ pub record IsQueue (ranks : List ℕ) (waiting : List Bool) (runs : List Run) : 
   pub all : AreRuns ranks waiting 0 (length ranks) runs
 
 -- runs with one more variable behind the others, which has a run of its own if the last run has another rank
-abbrev pub longer : List Run → ℕ → ℕ → List Run
-longer [] rank var = record { rank = rank; next = var; end = var + 1 } ∷ []
-longer (run ∷ []) rank var = if run.rank == rank then record run { end = var + 1 } ∷ [] else run ∷ record { rank = rank; next = var; end = var + 1 } ∷ []
-longer (run ∷ other ∷ runs) rank var = run ∷ longer (other ∷ runs) rank var
+abbrev pub lengthened : List Run → ℕ → ℕ → List Run
+lengthened [] rank var = record { rank = rank; next = var; end = var + 1 } ∷ []
+lengthened (run ∷ []) rank var = if run.rank == rank then record run { end = var + 1 } ∷ [] else run ∷ record { rank = rank; next = var; end = var + 1 } ∷ []
+lengthened (run ∷ other ∷ runs) rank var = run ∷ lengthened (other ∷ runs) rank var
 
 -- the place of the first run that ends behind a variable
 abbrev pub run_place : ℕ → List Run → ℕ

@@ -2,7 +2,7 @@
 ghost use Rattle.std.specs.Prelude.{◌≡◌, ◌<◌, ◌≤◌, ◌+◌, ◌-◌, ◌++◌, ◌∷◌, [], None, true, false, length, map, max, slice_set, vec_len, vec_capacity, OnOk, OnErr, IfSome, IfNone};
 ghost use Rattle.des_base.specs.declared.TheConstants.{VAR_LIMIT};
 ghost use Rattle.sat_order.specs.Waiting.{IsNext, NoneWaits, waits};
-ghost use Rattle.sat_order.specs.Queue.{best_run, better_run, first_waiting, longer, lowered, moved_on, run_place};
+ghost use Rattle.sat_order.specs.Queue.{best_run, better_run, first_waiting, lengthened, lowered, moved_on, run_place};
 
 use des_base::{Memory, VAR_LIMIT};
 use std::alloc::Global;
@@ -126,7 +126,7 @@ impl Queue {
 fn lengthen(runs: &mut Vec<Run>, rank: u64, var: u32)
     requires room { vec_len runs.old + 1 ≤ vec_capacity runs.old }
     requires limit { var < VAR_LIMIT }
-    ensures runs { runs.new.items ≡ longer runs.old.items rank var }
+    ensures runs { runs.new.items ≡ lengthened runs.old.items rank var }
     ensures count { vec_len runs.new ≤ vec_len runs.old + 1 }
     ensures capacity { vec_capacity runs.old ≤ vec_capacity runs.new }
 {
