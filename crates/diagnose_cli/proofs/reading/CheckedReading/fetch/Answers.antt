@@ -3,5 +3,5 @@ use Rattle.diagnose_cli.proofs.reading.CheckedReading.fetch.Goals as goal
 
 pub returns-clause-read : goal.returns-clause-read
 returns-clause-read g c =
-    let read = c.in_ok-fetch.ensures.read in
+    let read = c.in_ok-last.ensures.read in
     record { texts = read.texts; bytes = read.bytes; are = outcome_read read.texts _ _ read.are }
