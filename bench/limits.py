@@ -8,29 +8,29 @@ where none is given. `check` needs a C compiler, for its yardstick lratcheck.c. 
 Seconds are those of the processor, the least of three runs that take turns with those of the yardstick. A ratio is that of the seconds, and in brackets that of the memory. The goals stand beside the ratios; what misses its goal is
 printed as it is, and nothing fails.
 
-Before: on 30 November 2026, by a build of the program without any of what is told here and without its proof, on four shared processors under heavy load, so that seconds vary by up to two; `-` where 30 seconds (40 for `verdicts`) weren't enough. After: on 1 December by the proved program, on another such machine with as much else to do.
-In between came the checker's clauses by number and one look at a literal, one list a line of a proof, a twin question's list that its book takes over, the alarms' order by what stands before each, transitions by state and action with the place of a state's own number tried first, the table of touching events and
+Before: on 30 November 2026, by a build of the program without any of what is told here and without its proof, on four shared processors under heavy load, so that seconds vary by up to two; `-` where 30 seconds (40 for `verdicts`) weren't enough. After: on 1 December by the proved program, on another such machine with other work beside; medians of three or four runs of `check`, `cheapest` and `verdicts`, of which the ratios with 100 and 300 fault events went from 3.9 to 7.0 and 3.4 to 4.5 for `cheapest`, and from 1.9 to 2.8 and 3.8 to 7.9 for `verdicts`.
+In between came the checker's clauses by number and one look at a literal, steps of a proof that are checked as their lines are read, with derived clauses in one list, variables that wait in runs of equal rank in place of a heap, a twin question's list that its book takes over, the alarms' order by what stands before each, transitions by state and action with the place of a state's own number tried first, the table of touching events and
 their counts event by event, the labels of an alarm as a set, the advice of deadlines over lists of earlier alarms and over the events that the log's code keeps of each, and sums of the counter that `verdicts` tries first.
 
 | What | Before | After | Goal |
 |---|---|---|---|
-| `check`, 7 holes, 1 MB, times the C checker (memory) | 2.7 (1.0) | 2.1 (1.0) | 2.0 (1.2) |
-| `check`, 8 holes, 7 MB | 3.2 (2.4) | 2.9 (1.8) | 2.0 (1.2) |
-| `check`, a formula of 4,000,000 clauses, 97 MB | 3.4 (1.1) | 1.7 (0.8) | 2.0 (1.2) |
+| `check`, 7 holes, 1 MB, times the C checker (memory) | 2.7 (1.0) | 1.5 (1.0) | 2.0 (1.2) |
+| `check`, 8 holes, 7 MB | 3.2 (2.4) | 1.8 (1.0) | 2.0 (1.2) |
+| `check`, a formula of 4,000,000 clauses, 97 MB | 3.4 (1.1) | 1.9 (0.8) | 2.0 (1.2) |
 | `trace`, 4,000,000 events, 20 states, 10 actions, times one of three transitions | 2.5 | 1.0 | 1.5 |
-| `trace`, 200 states, 250 actions | - | 1.1 | 1.5 |
+| `trace`, 200 states, 250 actions | - | 1.0 | 1.5 |
 | `trace`, 256 states, 195 actions | - | 1.1 | 1.5 |
 | `trace`, one state, 4,000 actions | - | 1.0 | 1.5 |
-| the same question again, 2,000 alarms, 20,000 pairs | 0.35 s | 0.004 s | 0.05 s |
-| `diagnose`, 2,000 alarms of 64 labels, 4,000 events, 0 steps | 3.1 s | 0.41 s | 0.5 s |
+| the same question again, 2,000 alarms, 20,000 pairs | 0.35 s | 0.003 s | 0.05 s |
+| `diagnose`, 2,000 alarms of 64 labels, 4,000 events, 0 steps | 3.1 s | 0.42 s | 0.5 s |
 | `diagnose`, the largest model, 0 steps | 0.38 s | 0.14 s | 0.15 s |
-| `verdicts`, 30, 100, 300 fault events, beside `diagnose` | 3.7, 29 times, - | 1.9, 3.0, 5.1 | 5 |
-| `cheapest`, 30, 100, 300 fault events, beside `diagnose` (memory) | 14 (2.8), 6.3 (9.1), 3.5 (11.6) | 15 (2.5), 9.2 (8.4), 4.6 (11.2) | 4 (1.5) |
+| `verdicts`, 30, 100, 300 fault events, beside `diagnose` | 3.7, 29 times, - | 1.9, 2.5, 4.9 | 5 |
+| `cheapest`, 30, 100, 300 fault events, beside `diagnose` (memory) | 14 (2.8), 6.3 (9.1), 3.5 (11.6) | 9.7 (2.6), 4.9 (8.5), 3.7 (10.6) | 4 (1.5) |
 | `twin`, 40 devices, 200 steps, AFTER 100, bytes for each literal, which takes 8 itself | 16.9 | 8.7 | 10.4 |
 
-`check` stays above the C checker on proofs: half of its instructions read numbers, and two fifths follow hints, and it holds the whole proof, two blocks a step, where C keeps no hints.
+Half of what `check` does on proofs is to read numbers, and two fifths to follow hints. Of its memory on proofs the table can't say much: both programs are below what is seen from outside (by GNU time 8.3 MiB for 8 holes, and 8.2 for the C checker).
 
-`cheapest` can't get there while it writes its whole scale first, as its contract says: 1,001 variables and up to 2,002 clauses for each fault event and step, so 1.8 million variables and up to 3.6 million clauses for 300 fault events in 6 steps, each of which a question with an answer decides by itself. A third of what is left of the largest model (of its instructions) are
+`cheapest` gets there with 300 fault events alone, since it writes its whole scale first, as its contract says: 1,001 variables and up to 2,002 clauses for each fault event and step, so 1.8 million variables and up to 3.6 million clauses for 300 fault events in 6 steps, each of which a question with an answer decides by itself. A third of what is left of the largest model (of its instructions) are
 the lists of touching events of `step_encode`, which asks each component for each event.
 """
 import os
