@@ -28,7 +28,7 @@ their counts event by event, the labels of an alarm as a set, the advice of dead
 | `cheapest`, 30, 100, 300 fault events, beside `diagnose` (memory) | 14 (2.8), 6.3 (9.1), 3.5 (11.6) | 9.7 (2.6), 4.9 (8.5), 3.7 (10.6) | 4 (1.5) |
 | `twin`, 40 devices, 200 steps, AFTER 100, bytes for each literal, which takes 8 itself | 16.9 | 8.7 | 10.4 |
 
-Half of what `check` does on proofs is to read numbers, and two fifths to follow hints. Of its memory on proofs the table can't say much: both programs are below what is seen from outside (by GNU time 8.3 MiB for 8 holes, and 8.2 for the C checker).
+Half of what `check` does on proofs is to read numbers, and two fifths to follow hints. Of its memory on proofs the table can't say much: both programs are below what is seen from outside (by GNU time 8.9 MiB for 8 holes, and 8.2 for the C checker).
 
 `cheapest` gets there with 300 fault events alone, since it writes its whole scale first, as its contract says: 1,001 variables and up to 2,002 clauses for each fault event and step, so 1.8 million variables and up to 3.6 million clauses for 300 fault events in 6 steps, each of which a question with an answer decides by itself. A third of what is left of the largest model (of its instructions) are
 the lists of touching events of `step_encode`, which asks each component for each event.
