@@ -165,11 +165,6 @@ nothing_added net n stage row ask = subst (λ r. Becomes net n (with_row stage.l
 -- ---- all rows
 
 module _ (net : Net) (n budget : ℕ) where
-  -- the log after one more row
-  pub log_after_more : (before : Log) (rows : List Row) (row : Row) → log_after_rows net n before (rows ++ row ∷ []) ≡ after_row net n (log_after_rows net n before rows) row
-  log_after_more before [] row = refl
-  log_after_more before (first ∷ rows) row = log_after_more (after_row net n before first) rows row
-
   -- what came of the rows, with one more
   pub rows_told_more : (old : Stage) (rows : List Row) (row : Row) (mid new : Stage) (told : List RowTold) (here : RowTold) → AreRowsTold net n budget old rows mid told →
       IsRowTold net n budget mid row new here → AreRowsTold net n budget old (rows ++ row ∷ []) new (told ++ here ∷ [])

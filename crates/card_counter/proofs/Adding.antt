@@ -35,23 +35,6 @@ pub record AreAdded (old : CounterState) (inputs : List Lit) (first : ℕ) (writ
   pub others : All (MayCount vars state) inputs
   pub room : HasRoom store (2 * ((length inputs - done) * length old.columns)) (5 * ((length inputs - done) * length old.columns))
 
-pub none_added : (old : CounterState) (inputs : List Lit) (first : ℕ) (store : ClauseStore) → IsCounter old → IsMade first old → All (MayCount first old) inputs → length inputs ≤ old.spare_inputs →
-    HasRoom store (2 * (length inputs * length old.columns)) (5 * (length inputs * length old.columns)) → AreAdded old inputs first store.clauses 0 old first store
-none_added old inputs first store counter made others reserved room = record {
-  leads = refl;
-  writes = refl;
-  columns = refl;
-  count = ap (λ n. first + n * length old.columns) whole;
-  reserved = omega (arith, reserved);
-  counter = counter;
-  made = made;
-  others = others;
-  room = subst (λ n. HasRoom store (2 * (n * length old.columns)) (5 * (n * length old.columns))) (sym whole) room;
-}
-  where
-    whole : length inputs - 0 ≡ length inputs
-    whole = omega arith
-
 module _ (old : CounterState) (inputs : List Lit) (first : ℕ) (written : List Clause) (done : ℕ) (state : CounterState) (vars : ℕ) (store : ClauseStore) (are : AreAdded old inputs first written done state vars store) (less : done < length inputs) where
   one_less : (length inputs - done) * length old.columns ≡ length old.columns + (length inputs - (done + 1)) * length old.columns
   one_less =

@@ -1,5 +1,5 @@
 -- What a column says of an input, written one clause after another.
-use Rattle.std.proofs.Common.{◌≡◌, ℕ, suc, ◌+◌, ◌-◌, ◌*◌, ◌<◌, ◌≤◌, ◌∙◌, List, [], ◌∷◌, ◌++◌, flat_map, length, sym, ap, subst, arith, append_assoc, append-nil, length-append}
+use Rattle.std.proofs.Common.{◌≡◌, ℕ, suc, ◌+◌, ◌-◌, ◌*◌, ◌≤◌, ◌∙◌, List, [], ◌∷◌, ◌++◌, flat_map, length, sym, ap, subst, arith, append_assoc, length-append}
 use Rattle.std.specs.List.{range_with_len}
 use Rattle.std.proofs.Math.Seq.{get_or-append_seam}
 use Rattle.prop_core.specs.declared.lit.Lit.{Lit}
@@ -9,20 +9,9 @@ use Rattle.card_counter.proofs.Inputs.{longer_size}
 use Rattle.card_counter.proofs.ListLemmas.{flat_next}
 use Rattle.card_counter.proofs.States.{at_end, before_front, one_more_column}
 use Rattle.card_counter.specs.CounterState.{CounterState, column_at, column_before, column_clauses, place_clauses, input_at, clauses_of_column, clauses_of_input, with_column, next_clauses, longer, with_input, input_clauses}
-use Rattle.card_counter.specs.Growing.{HasRoom, AddsWithin}
+use Rattle.card_counter.specs.Growing.{AddsWithin}
 use Rattle.des_base.specs.Lists.{numbers_below}
 use Rattle.prop_core.specs.Trail.{no_literal}
-
-pub adds_none : (store : ClauseStore) (more : List Clause) (m n : ℕ) → more ≡ [] → AddsWithin store more m n store
-adds_none store more m n none = record { added = sym (append-nil store.clauses) ∙ ap (λ xs. store.clauses ++ xs) (sym none); clauses = omega arith; literals = omega arith }
-
-pub adds_one : (old new : ClauseStore) (clause : Clause) (more : List Clause) (m n : ℕ) → more ≡ clause ∷ [] → 1 ≤ m → length clause ≤ n →
-    new.clauses ≡ old.clauses ++ clause ∷ [] → new.spare_clauses + 1 ≡ old.spare_clauses → new.spare_literals + length clause ≡ old.spare_literals → AddsWithin old more m n new
-adds_one old new clause more m n is one short adds room literals = record {
-  added = adds ∙ ap (λ xs. old.clauses ++ xs) (sym is);
-  clauses = omega (arith, room, one);
-  literals = omega (arith, literals, short);
-}
 
 pub adds_both : (old mid new : ClauseStore) (xs ys : List Clause) (m n o p q r : ℕ) → AddsWithin old xs m n mid → AddsWithin mid ys o p new → m + o ≤ q → n + p ≤ r → AddsWithin old (xs ++ ys) q r new
 adds_both old mid new xs ys m n o p q r first second clauses literals = record {
@@ -43,12 +32,6 @@ adds_next f old mid new place more is so_far adds =
       clauses = both.clauses;
       literals = both.literals;
     }
-
-pub room_left : (old mid : ClauseStore) (so_far : List Clause) (place count : ℕ) → HasRoom old (2 * count) (5 * count) → AddsWithin old so_far (2 * place) (5 * place) mid → place < count → HasRoom mid 2 5
-room_left old mid so_far place count room added less = record {
-  clauses = let a = room.clauses in let b = added.clauses in omega (arith, a, b, less);
-  literals = let a = room.literals in let b = added.literals in omega (arith, a, b, less);
-}
 
 -- ---- the last column, and the last input
 

@@ -105,9 +105,6 @@ pub record IsAdded (old : CounterState) (vars : ℕ) (inputs : List Lit) (rows :
   pub within : vars + length old.inputs ≤ VAR_LIMIT
 
 module _ (old : CounterState) (vars : ℕ) (inputs : List Lit) (rows : List ℕ) (columns later : List Column) (spare : ℕ) (column : Column) (added : IsAdded old vars inputs rows columns later spare column) where
-  inputs_same : length inputs ≡ length old.inputs
-  inputs_same = ap (λ (state : CounterState). length state.inputs) added.view
-
   columns_same : length columns ≡ length old.columns
   columns_same = sym (columns_size rows 0 columns) ∙ ap (λ (state : CounterState). length state.columns) added.view
 

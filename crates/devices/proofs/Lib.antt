@@ -1,2 +1,1 @@
 mod Taking
-mod Reading

@@ -2,7 +2,6 @@
 use Rattle.std.proofs.Common.{ℕ, List, [], ◌∷◌}
 use Rattle.des_net.specs.Network.{Net}
 use Rattle.endings.specs.Transcripts.{Ending, IsOne}
-use Rattle.inquiries.specs.Begun.{LeavesQuestion, MayLearn}
 use Rattle.log_csv.specs.LogText.{log_of}
 use Rattle.log_order.specs.Log.{Log}
 use Rattle.model_text.specs.ModelFaults.{network_of}
@@ -12,7 +11,6 @@ use Rattle.diagnose_cli.specs.Commands.{asking}
 use Rattle.diagnose_cli.specs.Due.{Closes, EndsBySize, Says}
 use Rattle.diagnose_cli.specs.FilesRead.{IsCaseRead}
 use Rattle.diagnose_cli.specs.Questions.{AnswersTo, NamedQuestion}
-use Rattle.diagnose_cli.specs.Rows.{Leaves}
 use Rattle.diagnose_cli.specs.Tasks.{Reply, Task, told_once}
 use Rattle.diagnose_cli.proofs.Limits.{ends_weaker, says_one}
 use Rattle.diagnose_cli.proofs.ReadOver.{over_case}
@@ -20,10 +18,6 @@ use Rattle.diagnose_cli.proofs.ReadOver.{over_case}
 module _ (question : NamedQuestion) (steps : ℕ) (last : question.Word) (words : List (List ℕ)) (book : List BookEntry) (texts : List (List ℕ)) (net : Net) (log : Log) (read : IsCaseRead texts net log) where
   abbrev asked : Task Reply
   asked = (asking question).task (steps, last)
-
-  -- what an inquiry leaves
-  pub left_asked : LeavesQuestion net log steps (MayLearn (question.budget last)) book → Leaves (told_once asked) words texts book
-  left_asked left = over_case (λ ts. Leaves (told_once asked) words ts book) texts (λ n l. LeavesQuestion n l steps (MayLearn (question.budget last)) book) (λ text alarms h same. h) net log read left
 
   -- how it ends
   pub closes_asked : (e : Ending) → EndsBySize (question_size net log steps) (IsOne (AnswersTo question last net log steps book)) e → Closes (told_once asked) words book texts e

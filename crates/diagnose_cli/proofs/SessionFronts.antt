@@ -1,9 +1,9 @@
 -- What one row of a session tells, and what its rows tell one after another.
-use Rattle.std.proofs.Common.{◌≡◌, ◌≢◌, ◌≤◌, ◌^◌, ◌∙◌, inl, inr, ℕ, List, [], ◌∷◌, ◌++◌, Option, Result, Ok, Err, IfOk, OnErr, option_map, refl, sym, ap, subst, append-nil, append_assoc, arith, flat_map, option_to_list}
+use Rattle.std.proofs.Common.{◌≡◌, ◌≢◌, ◌≤◌, ◌^◌, ◌∙◌, inl, ℕ, List, [], ◌∷◌, ◌++◌, Option, Result, IfOk, OnErr, option_map, refl, sym, ap, subst, append-nil, append_assoc, arith, flat_map, option_to_list}
 use Rattle.std.proofs.lemmas.Grind.{flat_map-append}
 use Rattle.std.proofs.lemmas.Result.{IfOk-weaker, on_err_weaker}
 use Rattle.alarm_session.proofs.Rowing.{carried_out_more, nothing_carried_out}
-use Rattle.alarm_session.specs.Rows.{AreRowsTold, IsLeftUndone, IsRowTold, after_row}
+use Rattle.alarm_session.specs.Rows.{AreRowsTold, IsRowTold, after_row}
 use Rattle.alarm_session.specs.Session.{IsSessionBook, Stage, first_stage}
 use Rattle.alarm_session.specs.declared.rows.RowTold.{RowTold}
 use Rattle.alarm_session.specs.declared.rows.RowTold.TheVariants.{Made, Answered}
@@ -134,11 +134,6 @@ module _ {S : Type 0} (plan : S → Plan) (stage : S → Stage) where
       (others.0 ∙ here.same, moved p (append_assoc front (row ∷ []) rows) refl (append_assoc before (option_to_list text) rest ∙ ap (λ (ts : List (List ℕ)). before ++ ts) (sym are)) of_plan)
 
 -- ---- one row of a plan
-
--- which is left undone
-pub row_undone : {S V E : Type 0} (s t : S) (plan : S → Plan) (stage : S → Stage) (row : Row) → plan t ≡ plan s → (r : Result V E) → IsLeftUndone (plan s).net (plan s).limits.steps (plan s).limits.budget (stage s) row (stage t) → OnErr r (RowIsUntold plan stage s row t)
-row_undone s t plan stage row same (Ok text) undone = tt
-row_undone s t plan stage row same (Err e) undone = record { same = same; untold = inr undone }
 
 module _ {S : Type 0} (s t : S) (plan : S → Plan) (stage : S → Stage) (row : Row) (same : plan t ≡ plan s) (told : RowTold) (carried : IsCarriedOut (plan s).net (plan s).limits.steps (plan s).limits.budget (stage s) row (stage t) told) where
   -- with its reply, where it has one

@@ -1,5 +1,5 @@
 -- The events of the units as they are added.
-use Rattle.std.proofs.Common.{◌≡◌, ◌<◌, ◌≤◌, ◌+◌, ◌*◌, ℕ, zero, suc, true, false, None, Some, List, [], ◌∷◌, ◌++◌, length, map, refl, arith, ap, sym, ◌∙◌, length-append, append_assoc}
+use Rattle.std.proofs.Common.{◌≡◌, ◌<◌, ◌≤◌, ◌+◌, ◌*◌, ℕ, zero, suc, true, false, None, Some, List, [], ◌∷◌, ◌++◌, length, map, refl, arith, ap, sym, ◌∙◌, length-append}
 use Rattle.std.proofs.Math.Numerals.{add-one}
 use Rattle.std.specs.Prelude.{bytes_eq, flat_map, slice_get, option_map}
 use Rattle.std.specs.List.{range_with_len, list_all}
@@ -9,11 +9,11 @@ use Rattle.des_base.proofs.Elements.{all_change}
 use Rattle.des_base.proofs.PlaceLemmas.{none_join}
 use Rattle.des_base.specs.Names.{place_of}
 use Rattle.des_net.specs.declared.parts.Part.{Part}
-use Rattle.des_net.specs.Building.{with_event, event_refusal, repeats, is_known}
+use Rattle.des_net.specs.Building.{event_refusal, repeats, is_known}
 use Rattle.des_net.specs.Limits.{most_events, most_parts}
 use Rattle.des_net.specs.Models.{takes}
-use Rattle.des_net.specs.Network.{Component, Event, Net}
-use Rattle.gen_plant.specs.Plant.{most_units, units, bus_component, unit_component, jam_name, trip_name, fix_name, event_names_of, events_of, trip_label, fix_label}
+use Rattle.des_net.specs.Network.{Component, Net}
+use Rattle.gen_plant.specs.Plant.{most_units, units, bus_component, unit_component, jam_name, trip_name, fix_name, event_names_of, events_of, trip_label}
 use Rattle.gen_plant.specs.Stages.{first_components, with_unit_events, after_jam, after_trip, AwaitsUnit}
 use Rattle.gen_plant.proofs.Lists.{units_more, units_below, absent_append, absent_flat, unlike}
 use Rattle.gen_plant.proofs.NameLemmas.{other_numeral}
@@ -100,16 +100,6 @@ awaits_unit z done few less =
       fix = event_free (after_trip net n) (fix_name n) (takes n 2 ∷ []) (absent_append (fix_name n) (names ++ jam_name n ∷ []) (trip_name n ∷ []) (absent_append (fix_name n) names (jam_name n ∷ []) fix refl) refl)
           (once_alone (takes n 2)) (one_known net.components (takes n 2) (unit_known z done 2 less (omega arith))) (omega arith) (omega arith);
     }
-
-three : {X : Type 0} (xs : List X) (a b c : X) → ((xs ++ a ∷ []) ++ b ∷ []) ++ c ∷ [] ≡ xs ++ a ∷ b ∷ c ∷ []
-three xs a b c = append_assoc (xs ++ a ∷ []) (b ∷ []) (c ∷ []) ∙ append_assoc xs (a ∷ []) (b ∷ c ∷ [])
-
-all_three : (net : Net) (unit : ℕ) → with_event (after_trip net unit) (fix_name unit) (takes unit 2 ∷ []) (Some (fix_label unit)) false ≡ with_unit_events net unit
-all_three net unit =
-    let jam : Event = record { parts = takes unit 0 ∷ []; label = None; fault = true } in
-    let trip : Event = record { parts = takes unit 1 ∷ takes 0 0 ∷ []; label = Some (trip_label unit); fault = false } in
-    let fix : Event = record { parts = takes unit 2 ∷ []; label = Some (fix_label unit); fault = false } in
-    λ i. record net { event_names = three net.event_names (jam_name unit) (trip_name unit) (fix_name unit) i; events = three net.events jam trip fix i }
 
 pub events_more : (z done : ℕ) → with_unit_events (first_events z done) (done + 1) ≡ first_events z (done + 1)
 events_more z done =

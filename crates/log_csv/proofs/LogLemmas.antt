@@ -176,9 +176,6 @@ pair-refused earlier first second row i j log new e h named a b refusal =
 
 -- ---- rows
 
-same_alarm : (maybe : Bool) (i id : List ℕ) (ls labels : List (List ℕ)) → i ≡ id → ls ≡ labels → alarm maybe i ls ≡ alarm maybe id labels
-same_alarm maybe i id ls labels a b = ap (λ x. alarm maybe x ls) a ∙ ap (alarm maybe id) b
-
 ask-of : (of : Record) → row_of of ≡ Some row.Ask → of ≡ ask
 ask-of (alarm true i ls) h = cc
 ask-of (alarm false i ls) h = cc

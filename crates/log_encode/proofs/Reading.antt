@@ -48,9 +48,6 @@ zip_count R (x ∷ xs) (y ∷ ys) h = ap suc (zip_count R xs ys h.1)
 abbrev pub Reads : Net → Log → ℕ → List (ℕ × Meaning) → Clause → LogClause → Type 0
 Reads net log n names clause which = named_clause names clause ≡ Some (log_clause net log n which)
 
-pub reads_one : (names : List (ℕ × Meaning)) (v : ℕ) (a : Bool) (x : Meaning) → meaning_of names v ≡ Some x → named_clause names (record { var = v; positive = a } ∷ []) ≡ Some (record { meaning = x; positive = a } ∷ [])
-reads_one names v a x h = ordered_names names (record { var = v; positive = a } ∷ []) (record { meaning = x; positive = a } ∷ []) ((h, refl), tt)
-
 pub reads_two : (names : List (ℕ × Meaning)) (v w : ℕ) (a b : Bool) (x y : Meaning) → meaning_of names v ≡ Some x → meaning_of names w ≡ Some y →
     named_clause names (record { var = v; positive = a } ∷ record { var = w; positive = b } ∷ []) ≡ Some (record { meaning = x; positive = a } ∷ record { meaning = y; positive = b } ∷ [])
 reads_two names v w a b x y h k = ordered_names names (record { var = v; positive = a } ∷ record { var = w; positive = b } ∷ []) (record { meaning = x; positive = a } ∷ record { meaning = y; positive = b } ∷ []) ((h, refl), ((k, refl), tt))

@@ -241,22 +241,8 @@ pub first_below-found : (m k : ℕ) (p : ℕ → Bool) → p k ≡ true → firs
 first_below-found zero k p h none l = absurd (omega arith)
 first_below-found (suc m) k p h none l = found_step m k p h none l (λ less. first_below-found m k p h none less) (k == m) refl
 
-pub first_below-marks : (m : ℕ) (pairs : List (ℕ × ℕ)) (order : List ℕ) (taken marks : List Bool) → ((i : ℕ) → is_marked taken i ≡ is_in order i) → ((i : ℕ) → is_marked marks i ≡ is_held_back (is_marked taken) pairs i)
-    → first_below m (λ i. not (is_marked marks i)) ≡ first_below m (λ i. not (is_held_back (is_in order) pairs i))
-first_below-marks m pairs order taken marks t w =
-    let tests : is_marked taken ≡ is_in order = λ k i. t i k in
-    let all : (i : ℕ) → is_marked marks i ≡ is_held_back (is_in order) pairs i = λ i. w i ∙ ap (λ test. is_held_back test pairs i) tests in
-    λ k. first_below m (λ i. not (all i k))
-
 pub with_next-some : (m : ℕ) (pairs : List (ℕ × ℕ)) (taken : List ℕ) (i : ℕ) → first_below m (λ i. not (is_held_back (is_in taken) pairs i)) ≡ Some i → with_next m pairs taken ≡ taken ++ i ∷ []
 with_next-some m pairs taken i h = ap (λ o. option_map_or (λ i. taken ++ i ∷ []) o taken) h
 
 pub taken-more : (order : List ℕ) (taken new : List Bool) (next i : ℕ) → next < length taken → new ≡ slice_set taken next true → ((j : ℕ) → is_marked taken j ≡ is_in order j) → is_marked new i ≡ is_in (order ++ next ∷ []) i
 taken-more order taken new next i l e h = ap (λ ms. is_marked ms i) e ∙ marked-set taken next i l ∙ ap (λ b. b || (next == i)) (h i) ∙ sym (in-push order next i)
-
--- what a search through the marks finds is the smallest free number
-pub next-is : (n m : ℕ) (pairs : List (ℕ × ℕ)) (order : List ℕ) (taken read marks read_marks : List Bool) (next : ℕ) → n ≡ m → read ≡ taken → read_marks ≡ marks → ((i : ℕ) → is_marked taken i ≡ is_in order i)
-    → ((i : ℕ) → is_marked marks i ≡ is_held_back (is_marked read) pairs i) → first_below n (λ i. not (is_marked read_marks i)) ≡ Some next → first_below m (λ i. not (is_held_back (is_in order) pairs i)) ≡ Some next
-next-is n m pairs order taken read marks read_marks next e f g t w h =
-    sym (first_below-marks m pairs order taken marks t (λ i. w i ∙ ap (λ ms. is_held_back (is_marked ms) pairs i) f))
-    ∙ ap (λ k. first_below k (λ i. not (is_marked marks i))) (sym e) ∙ ap (λ ms. first_below n (λ i. not (is_marked ms i))) (sym g) ∙ h

@@ -64,9 +64,6 @@ one_name name false h = rw h refl
 homeless : (b named double unknown past : Bool) → b ≡ true → first_of b named double unknown past ≡ Some 7
 homeless b named double unknown past h = rw h refl
 
-none_there : (net : Net) → length net.components ≡ 0 → is_without_components net ≡ true
-none_there net h = ap (λ n. nat_le n 0) h
-
 -- ---- the component that was begun last
 
 module _ (net : Net) (comp : ℕ) (current : comp + 1 ≡ length net.components) where
@@ -91,18 +88,6 @@ module _ (net : Net) (comp : ℕ) (current : comp + 1 ≡ length net.components)
   pub state-given : (text name : List ℕ) (initial : Bool) (r : BuildRefusal) → IsNamedInLine text (Ok name) → SucceedsUnless {X = ℕ} (state_refusal net.components comp name) builder.Memory (Err r) → IsCoded (code_by net (state text initial)) (refusal_of_build r)
   state-given text name initial r named answered =
       state-refused text initial r named.1 (subst (λ (n : List ℕ). SucceedsUnless {X = ℕ} (state_refusal net.components comp n) builder.Memory (Err r)) named.0 answered)
-
-  -- one of whose states isn't known
-  pub transition-unknown : (from action to : List ℕ) (o p : Option ℕ) → (is_name_text from && (is_name_text action && (is_name_text to && true))) ≡ true → place_of from last.state_names ≡ o → place_of to last.state_names ≡ p
-      → (is_some o && is_some p) ≡ false → code_by net (transition from action to) ≡ Some 5
-  transition-unknown from action to o p h source target lost =
-      (λ i. first_of (some i) (h i) (has_placed last action (source i) (target i)) (not (is_some (source i) && is_some (target i))) (nat_le 50000 (trans_count net.components)))
-      ∙ unknown_of o p lost
-    where
-      unknown_of : (o p : Option ℕ) → (is_some o && is_some p) ≡ false → first_of false true (has_placed last action o p) (not (is_some o && is_some p)) (nat_le 50000 (trans_count net.components)) ≡ Some 5
-      unknown_of None p h = refl
-      unknown_of (Some i) None h = refl
-      unknown_of (Some i) (Some j) h = cc
 
   pub transition-refused : (from action to : List ℕ) (i j : ℕ) (r : BuildRefusal) → (is_name_text from && (is_name_text action && (is_name_text to && true))) ≡ true → place_of from last.state_names ≡ Some i → place_of to last.state_names ≡ Some j
       → i < length last.state_names → j < length last.state_names → SucceedsUnless {X = Unit {0}} (trans_refusal net.components comp i action j) builder.Memory (Err r) → IsCoded (code_by net (transition from action to)) (refusal_of_build r)
@@ -223,13 +208,3 @@ found-some net parts found slice is same some =
 pub handed : (net new : Net) (said : Option ModelLine) (of : ModelLine) (result : Result (Unit {0}) LineRefusal) (e : LineRefusal) → said ≡ Some of → IsErrAnd result (λ x. x ≡ e) → IsCoded (code_by net of) e → AddsLine net said new result
 handed net new said of (Ok done) e is told h = absurd told
 handed net new said of (Err x) e is told h = subst (λ y. IsCoded (code_by_tokens net said) y) (sym told) (subst (λ o. IsCoded (code_by_tokens net o) e) (sym is) h)
-
--- the refusal of a word that is no name
-pub no_name : (code : Option ℕ) (text : List ℕ) (e : LineRefusal) → IsNamedInLine text (Err e) → (is_name_text text ≡ false → code ≡ Some 3) → IsCoded code e
-no_name code text line.Shape h f = absurd h
-no_name code text line.Homeless h f = absurd h
-no_name code text line.Name h f = f h
-no_name code text line.Double h f = absurd h
-no_name code text line.Unknown h f = absurd h
-no_name code text line.Limit h f = absurd h
-no_name code text line.Memory h f = tt

@@ -1,9 +1,8 @@
 -- Going over an event's parts with the set of the component names that were seen.
-use Rattle.std.proofs.Common.{◌≡◌, ◌<◌, ◌≤◌, ◌+◌, ℕ, suc, Bool, true, false, cond, List, [], ◌∷◌, length, drop, get_or, refl, sym, ap, ◌∙◌, add-one}
+use Rattle.std.proofs.Common.{◌≡◌, ◌<◌, ◌+◌, ℕ, suc, Bool, true, false, cond, List, [], ◌∷◌, length, drop, get_or, refl, sym, ap, ◌∙◌, add-one}
 use Rattle.std.specs.Prelude.{bytes_eq, is_some, map, ◌||◌}
 use Rattle.std.specs.List.{list_any}
 use Rattle.std.proofs.Math.Seq.{drop-cons}
-use Rattle.std.proofs.lemmas.List.{drop_all}
 use Rattle.des_base.specs.Names.{place_of}
 use Rattle.des_net.proofs.PartLemmas.{regroup, pass}
 use Rattle.model_text.specs.declared.part_name.PartName.{PartName}
@@ -42,7 +41,3 @@ marks-step ps i other f g h fresh more =
     ∙ ap (λ b. b || has_repeated (names_of rest)) (marks-more f g part.component.now more rest)
     ∙ sym (pass (f part) (list_any f rest) (is_some (place_of part.component.now (names_of rest))) (has_repeated (names_of rest)) fresh)
     ∙ ap (λ qs. list_any f qs || has_repeated (names_of qs)) (sym (drop-cons ps i other h))
-
--- and after the last part none is marked and none repeats
-pub marks-end : (ps : List PartName) (i : ℕ) (f : PartName → Bool) → length ps ≤ i → (list_any f (drop i ps) || has_repeated (names_of (drop i ps))) ≡ false
-marks-end ps i f h = ap (λ qs. list_any f qs || has_repeated (names_of qs)) (drop_all i ps h)

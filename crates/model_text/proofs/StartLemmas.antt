@@ -2,12 +2,8 @@
 use Rattle.std.proofs.Common.{◌≡◌, ℕ, Bool, true, false, cond, List, [], ◌∷◌, Option, None, Some, refl}
 use Rattle.std.specs.Prelude.{bytes_eq, codes, option_map}
 use Rattle.std.specs.Option.{option_map_or}
-use Rattle.des_base.specs.CountedLines.{NumberedLine, tokens_of}
-use Rattle.model_text.specs.ModelLines.{ModelLine, state, event, NamedPart, model_line, parts_of_tokens, state_line, transition_line, event_line, after_flags, after_label}
+use Rattle.model_text.specs.ModelLines.{ModelLine, state, event, NamedPart, parts_of_tokens, state_line, transition_line, event_line, after_flags, after_label}
 use Rattle.model_text.specs.ModelNetwork.{begins_component}
-
-abbrev pub begins : NumberedLine → Bool
-begins line = option_map_or begins_component (model_line (tokens_of line.text)) false
 
 -- ---- a line that begins no component
 

@@ -1,5 +1,5 @@
 -- What is found of the least total, by costs that a table holds.
-use Rattle.std.proofs.Common.{◌≡◌, ◌∙◌, inl, inr, ℕ, List, [], ◌∷◌, ◌++◌, map, Option, Result, Ok, Err, IfOk, OnErr, ap, subst, sym, arith}
+use Rattle.std.proofs.Common.{◌≡◌, ◌∙◌, inl, inr, ℕ, List, [], ◌∷◌, ◌++◌, map, Option, Result, Ok, Err, IfOk, OnErr, ap, subst, sym}
 use Rattle.card_counter.specs.CounterState.{CounterState}
 use Rattle.cost_least.proofs.SameCosts.{fault_known, same_answered, same_open, same_parts}
 use Rattle.cost_least.specs.Answers.{CostAsked, IsCostAnswered, IsCostLeftOpen}
@@ -10,7 +10,7 @@ use Rattle.des_net.specs.Network.{Net}
 use Rattle.des_base.specs.declared.memory.Memory.{Memory}
 use Rattle.event_costs.specs.Prices.{cost_at}
 use Rattle.event_costs.specs.StoredCosts.{GivesCosts}
-use Rattle.least_faults.specs.Parts.{IsWithinLimits, built_of}
+use Rattle.least_faults.specs.Parts.{built_of}
 use Rattle.least_faults.specs.declared.parts.Parts.{Parts}
 use Rattle.log_encode.specs.CodedLog.{CodedLog}
 use Rattle.log_order.specs.Log.{Log}
@@ -20,12 +20,8 @@ use Rattle.run_decode.specs.QuestionAxioms.{BuiltQuestion, question_axioms, ques
 use Rattle.step_encode.specs.Coded.{CodedSteps}
 use Rattle.weight_counter.specs.declared.scale.Scale.{Scale}
 use Rattle.inquiries.specs.Begun.{HasBegun, unasked_book}
-use Rattle.pricing.specs.LeastCost.{AnswersTable, CostAlike, HasCostQuestion, IsPricedBy, IsWithinCosts, LeavesCosts, StaysUnpriced}
+use Rattle.pricing.specs.LeastCost.{AnswersTable, CostAlike, HasCostQuestion, IsPricedBy, LeavesCosts, StaysUnpriced}
 use Rattle.inquiries.proofs.Diagnosing.{question_begins}
-
--- a question of costs is no smaller than the question
-pub within_question : (net : Net) (log : Log) (n : ℕ) → IsWithinCosts net log n → IsWithinLimits net log n
-within_question net log n within = record { steps = within.steps; size = (let size = within.size in omega (arith, size)) }
 
 module _ {R C : Type 0} (may : R → ℕ → Type 0) (gives : R → ℕ → ℕ → Type 0) (answers : C → ℕ → ℕ → Type 0) (stored : C) (net : Net) (log : Log) (parts later : Parts R) (budget : ℕ) (old new : List BookEntry) (table : List (Option ℕ))
     (begun : HasBegun may gives net log parts old) (kept : KeepsCode parts later) (by_table : AnswersTable answers stored net table) where

@@ -1,19 +1,16 @@
 -- A book that begins with clauses as its axioms.
-use Rattle.std.proofs.Common.{◌≡◌, ◌∙◌, ℕ, ◌+◌, ◌<◌, ◌≤◌, List, [], ◌∷◌, ◌++◌, length, map, take, get_or, refl, sym, ap, subst, arith}
+use Rattle.std.proofs.Common.{◌≡◌, ◌∙◌, ℕ, ◌+◌, ◌<◌, ◌≤◌, List, [], ◌∷◌, ◌++◌, length, map, take, get_or, sym, ap, subst, arith}
 use Rattle.std.proofs.lemmas.Grind.{common_steps}
 use Rattle.std.proofs.lemmas.List.{map-append, take_more}
 use Rattle.prop_core.specs.Clauses.{Clause}
 use Rattle.proof_ledger.specs.declared.entry.KeptEntry.{KeptEntry}
 use Rattle.proof_ledger.specs.declared.entry.KeptEntry.TheVariants.{Axiom}
 use Rattle.proof_ledger.specs.Book.{BookEntry, axiomatic}
-use Rattle.proof_ledger.proofs.Books.{Joined, is_book, axiom_joined}
+use Rattle.proof_ledger.proofs.Books.{Joined, axiom_joined}
 
 -- what is kept of the first clauses is a book of axioms
 abbrev pub Begun : List Clause → ℕ → List KeptEntry → List (List ℕ) → Type 0
 Begun all n entries hints = Joined entries (take n all) hints (map axiomatic (take n all))
-
-pub none_begun : (all : List Clause) → Begun all 0 [] []
-none_begun all = is_book [] [] [] [] (record { entries_are = refl; clauses_are = refl; hints_are = refl; valid = tt })
 
 count_taken : (all : List Clause) (n : ℕ) → n < length all → n + 1 ≡ length (take (n + 1) all)
 count_taken all n below = grind (arith, common_steps)

@@ -1,5 +1,5 @@
 -- A proof that is verified refutes its axioms.
-use Rattle.std.proofs.Common.{◌≡◌, ◌∙◌, ℕ, zero, suc, ◌-◌, ◌==◌, Bool, true, false, ◌∷◌, [], List, refl, ap, sym, arith, subst, Some, None, Option, slice_get, cond, IsTrue, nat_eq, sub-one}
+use Rattle.std.proofs.Common.{◌≡◌, ℕ, zero, suc, ◌-◌, ◌==◌, Bool, true, false, ◌∷◌, [], List, refl, arith, subst, Some, None, Option, slice_get, cond, IsTrue, nat_eq, sub-one}
 use Rattle.std.specs.List.{list_any}
 use Rattle.prop_core.specs.Clauses.{Clause, clause_true, AllClausesTrue}
 use Rattle.prop_core.specs.Derivation.{derive, Derivation, derives, fails, clause_numbered}
@@ -9,7 +9,7 @@ use Rattle.proof_ledger.specs.declared.checker.ProofStep.{ProofStep}
 use Rattle.proof_ledger.specs.declared.checker.ProofStep.TheVariants.{Add, Delete}
 use Rattle.proof_ledger.specs.declared.checker.Checked.{Checked}
 use Rattle.proof_ledger.specs.declared.checker.Checked.TheVariants.{Verified}
-use Rattle.proof_ledger.specs.Checking.{with_clause, without, is_empty_clause, Checking, answered, holds, after_add, after_step, after_next, check_from, check_proof, rest_gives, IsUnsatisfiable}
+use Rattle.proof_ledger.specs.Checking.{with_clause, without, is_empty_clause, Checking, answered, holds, after_add, after_step, check_from, check_proof, IsUnsatisfiable}
 use Rattle.des_base.proofs.BoolLemmas.{differ}
 
 -- two that hold the same are one
@@ -77,12 +77,3 @@ numbered_true value clauses all number given e = by (number == 0) e
 
 pub verified_refutes : (axioms : List Clause) (steps : List ProofStep) → check_proof axioms steps ≡ Verified → IsUnsatisfiable axioms
 verified_refutes axioms steps e value all = verified_false value steps (clause_numbered axioms) (numbered_true value axioms all) e
-
--- what the first of the steps reaches, the others go on from
-pub rest_gives-next : (checking : Checking) (step : ProofStep) (steps : List ProofStep) → rest_gives (after_next checking step) steps ≡ rest_gives checking (step ∷ steps)
-rest_gives-next (answered checked) step steps = refl
-rest_gives-next (holds held) step steps = by (after_step held step) refl
-  where
-    by : (c : Checking) → after_step held step ≡ c → rest_gives (after_step held step) steps ≡ check_from held (step ∷ steps)
-    by (answered checked) e = let is : check_from held (step ∷ steps) ≡ checked = rw (e, check_from) refl in ap (λ c. rest_gives c steps) e ∙ sym is
-    by (holds more) e = let is : check_from held (step ∷ steps) ≡ check_from more steps = rw (e, check_from) refl in ap (λ c. rest_gives c steps) e ∙ sym is

@@ -14,7 +14,6 @@ use Rattle.proof_ledger.specs.declared.checker.ProofStep.{ProofStep}
 use Rattle.proof_ledger.specs.declared.checker.ProofStep.TheVariants.{Add}
 use Rattle.proof_ledger.specs.declared.entry.Entry.{Entry}
 use Rattle.proof_ledger.specs.declared.entry.Entry.TheVariants.{Axiom, Learnt, Final, Mark}
-use Rattle.proof_text.proofs.PrintLemmas.{numbered_at}
 use Rattle.proof_text.specs.Refutation.{EndsIn, front_to, is_numbered, numbers_from, new_number, derived_clause_of, derived_of, derived_steps, IsStepOf}
 use Rattle.proof_ledger.proofs.Checks.{numbered-suc}
 
@@ -59,13 +58,6 @@ hints_there (axiomatic d ∷ book) (suc place) e hints is has = hints_there book
 hints_there (learnt d hs ∷ book) (suc place) e hints is has = hints_there book place e hints is has
 hints_there (final d hs ∷ book) (suc place) e hints is has = hints_there book place e hints is has
 hints_there (mark k ∷ book) (suc place) e hints is has = hints_there book place e hints is has
-
--- a clause that is looked up by its number is that of the entry
-pub same_clause : (book : List BookEntry) (place n : ℕ) (e : BookEntry) (d c : Clause) → slice_get book place ≡ Some e → clause_of e ≡ Some d → n ≡ number_at book place → clause_numbered (clauses_of book) n ≡ Some c → d ≡ c
-same_clause book place n e d c there has number is =
-    let at = numbered_at (clauses_of book) (length (clauses_of (take place book))) c (subst (λ k. clause_numbered (clauses_of book) k ≡ Some c) number is) in
-    let own = numbered_there book place e d there has in
-    cc
 
 numbered_by : (clauses : List Clause) (k : ℕ) (c : Clause) → slice_get clauses k ≡ Some c → clause_numbered clauses (k + 1) ≡ Some c
 numbered_by clauses k c h = let on : k + 1 ≡ suc k = omega arith in ap (clause_numbered clauses) on ∙ numbered-suc clauses k ∙ h

@@ -1,22 +1,12 @@
 -- What the lines of a run text say, line by line.
-use Rattle.std.proofs.Common.{◌≡◌, ◌<◌, ℕ, suc, Bool, true, false, cond, List, [], ◌∷◌, length, Option, None, Some, refl, arith, ap, sym, ◌∙◌}
-use Rattle.std.specs.Prelude.{option_map, IfSome, nat_le, not, is_none, ◌≤◌}
+use Rattle.std.proofs.Common.{◌≡◌, ℕ, Bool, true, false, cond, List, ◌∷◌, length, Option, None, Some, refl, arith, ap, sym, ◌∙◌}
+use Rattle.std.specs.Prelude.{nat_le, not, is_none, ◌≤◌}
 use Rattle.std.specs.List.{list_all}
 use Rattle.std.proofs.lemmas.Bool.Decides.{nat_tests}
 use Rattle.des_base.specs.Names.{is_name_text}
-use Rattle.des_base.specs.Names.{place_by}
 use Rattle.des_base.specs.CountedLines.{NumberedLine, counted_lines, numbered, tokens_of, last_line}
 use Rattle.des_net.specs.Network.{Net}
 use Rattle.replay.specs.RunText.{step_code, step_words, names_in, knows_event, after_reply_line, stated_length, fault_of_steps, run_fault_of_lines, first_run_fault}
-
-place_step : (b : Bool) (q : Option ℕ) (n : ℕ) → IfSome q (λ j. j < n) → IfSome (cond b (Some 0) (option_map suc q)) (λ k. k < suc n)
-place_step true q n rest = omega arith
-place_step false None n rest = tt
-place_step false (Some j) n rest = omega arith
-
-place-within : {X : Type 0} (p : X → Bool) (xs : List X) → IfSome (place_by p xs) (λ k. k < length xs)
-place-within p [] = tt
-place-within p (x ∷ xs) = place_step (p x) (place_by p xs) (length xs) (place-within p xs)
 
 -- where the header is well the text's first fault is that of its steps
 pub first_run_fault-steps : (net : Net) (bytes : List ℕ) (lines : List NumberedLine) (number : ℕ) (text : List ℕ) (stated : ℕ) (steps : List NumberedLine) → lines ≡ counted_lines 35 bytes

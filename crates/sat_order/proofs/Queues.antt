@@ -2,7 +2,7 @@
 use Rattle.std.proofs.Common.{◌≡◌, ◌∙◌, ℕ, zero, suc, ◌+◌, ◌-◌, ◌<◌, ◌≤◌, Bool, true, false, ◌++◌, ◌∷◌, [], List, refl, ap, sym, length, get_or, arith, subst, inl, inr, ⊎_elim, eqb, ltb, cond, slice_set, map, min, drop, take}
 use Rattle.std.specs.Prelude.{Option, Some, None}
 use Rattle.std.proofs.lemmas.Grind.{common_steps}
-use Rattle.std.proofs.lemmas.Bool.{eqb-true, ltb-true, ltb-false, lt-ltb, le-ltb, eq-eqb, ne_eqb, cases_lt, cases_eq, cases_order}
+use Rattle.std.proofs.lemmas.Bool.{eqb-true, ltb-true, ltb-false, eq-eqb, ne_eqb, cases_lt, cases_eq, cases_order}
 use Rattle.sat_order.specs.declared.queue.Run.{Run}
 use Rattle.sat_order.specs.Waiting.{rank_of, waits, ComesFirst, IsNext, NoneWaits}
 use Rattle.sat_order.specs.Queue.{IsRankRun, AreRuns, IsQueue, lengthened, run_place, lowered, first_waiting, moved_on, better_run, best_run}
@@ -166,10 +166,6 @@ first_waits waiting next (suc count) a = by (waits waiting next) refl (first_wai
     by true t later c = t
     by false t later c = later (omega arith)
 
-pub first_here : (waiting : List Bool) (next count : ℕ) → waits waiting next ≡ true → first_waiting waiting next count ≡ next
-first_here waiting next zero t = refl
-first_here waiting next (suc count) t = rw t refl
-
 pub first_later : (waiting : List Bool) (next count : ℕ) → 0 < count → waits waiting next ≡ false → first_waiting waiting next count ≡ first_waiting waiting (next + 1) (count - 1)
 first_later waiting next zero a t = absurd (omega arith)
 first_later waiting next (suc count) a t = let e : next + 1 ≡ suc next = omega arith in let f : suc count - 1 ≡ count = omega arith in rw (t, e, f) refl
@@ -302,18 +298,6 @@ best_more best better runs place run all k e f h = rw f (sym (ap (best_run best)
 
 pub best_past : (best : Option Run) (runs : List Run) (place : ℕ) (all : Option Run) → length runs ≤ place → best_run best (drop place runs) ≡ all → best ≡ all
 best_past best runs place all k h = let e : drop place runs ≡ [] = grind (arith, common_steps) in sym (ap (best_run best) e) ∙ h
-
-pub place_more : (var : ℕ) (runs : List Run) (place : ℕ) (run : Run) (all : ℕ) → place < length runs → run ≡ get_or runs place run → run.end ≤ var → place + run_place var (drop place runs) ≡ all → place + 1 + run_place var (drop (place + 1) runs) ≡ all
-place_more var runs place run all k e f h =
-    let a : run_place var (drop place runs) ≡ run_place var (run ∷ drop (place + 1) runs) = ap (run_place var) (drop_head runs place run k e) in
-    let b : run_place var (run ∷ drop (place + 1) runs) ≡ suc (run_place var (drop (place + 1) runs)) = ap (λ t. cond t 0 (suc (run_place var (drop (place + 1) runs)))) (le-ltb var run.end f) in
-    omega arith
-
-pub place_found : (var : ℕ) (runs : List Run) (place : ℕ) (run : Run) (all : ℕ) → place < length runs → run ≡ get_or runs place run → var < run.end → place + run_place var (drop place runs) ≡ all → place ≡ all
-place_found var runs place run all k e f h =
-    let a : run_place var (drop place runs) ≡ run_place var (run ∷ drop (place + 1) runs) = ap (run_place var) (drop_head runs place run k e) in
-    let b : run_place var (run ∷ drop (place + 1) runs) ≡ 0 = ap (λ t. cond t 0 (suc (run_place var (drop (place + 1) runs)))) (lt-ltb var run.end f) in
-    omega arith
 
 -- the last run becomes longer, or another one comes behind it
 pub longer_by_same : (runs : List Run) (place : ℕ) (run : Run) (rank var : ℕ) → length runs ≡ suc place → run ≡ get_or runs place run → run.rank ≡ rank → slice_set runs place (record { rank = run.rank; next = run.next; end = var + 1 }) ≡ lengthened runs rank var

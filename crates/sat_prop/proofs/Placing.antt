@@ -1,5 +1,5 @@
 -- The places of literals, and the values that are read by them.
-use Rattle.std.proofs.Common.{◌≡◌, ◌∙◌, ℕ, ◌+◌, ◌<◌, Bool, true, false, ◌++◌, ◌∷◌, [], List, refl, ap, sym, length, take, get_or, arith, subst, ⊎_elim, Some, None, replicate}
+use Rattle.std.proofs.Common.{◌≡◌, ◌∙◌, ℕ, ◌+◌, ◌<◌, Bool, true, false, ◌++◌, ◌∷◌, [], List, refl, ap, sym, length, take, get_or, arith, subst, ⊎_elim, Some, None}
 use Rattle.std.specs.Prelude.{slice_set, slice_index}
 use Rattle.std.proofs.lemmas.Grind.{common_steps}
 use Rattle.std.proofs.lemmas.Bool.{cases_Bool}
@@ -36,13 +36,6 @@ places_take vars n literals places a = record {
       let g : get_or (take n literals) k no_literal ≡ get_or literals k no_literal = grind (arith, common_steps) in
       let b : k < length literals = grind (arith, common_steps) in
       ap (λ (x : Lit). get_or places x.var 0) g ∙ a.each k b;
-}
-
--- more variables
-pub places_wider : (vars more : ℕ) (literals : List Lit) (places : List ℕ) → ArePlaces vars literals places → ((k : ℕ) → k < length literals → (get_or literals k no_literal).var < vars) → ArePlaces (length (places ++ replicate more 0)) literals (places ++ replicate more 0)
-places_wider vars more literals places a below = record {
-  enough = refl;
-  each = λ k h. let b = below k h in let n = a.enough in let e : get_or (places ++ replicate more 0) (get_or literals k no_literal).var 0 ≡ get_or places (get_or literals k no_literal).var 0 = grind (arith, common_steps) in e ∙ a.each k h;
 }
 
 -- the place that is kept of a variable with a literal

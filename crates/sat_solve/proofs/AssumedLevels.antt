@@ -3,7 +3,7 @@ use Rattle.std.proofs.Common.{◌≡◌, ◌∙◌, ℕ, ◌+◌, ◌<◌, ◌�
 use Rattle.std.specs.Prelude.{cond, Option, Some, None, is_none}
 use Rattle.std.specs.List.{prefix_len}
 use Rattle.std.proofs.Math.Nat.{min-eq_right}
-use Rattle.std.proofs.lemmas.List.{drop_more, drop_all}
+use Rattle.std.proofs.lemmas.List.{drop_more}
 use Rattle.std.proofs.lemmas.List.Sums.{sum_by-cons}
 use Rattle.prop_core.specs.declared.lit.Lit.{Lit}
 use Rattle.prop_core.specs.Clauses.{is_true}
@@ -39,10 +39,6 @@ module _ (literals : List Lit) (reasons : List (Option ℕ)) (assumed : List Lit
         by_some : (r : Option ℕ) → reason_at reasons place ≡ r → is_none r ≡ false → assumed_of (drop place literals) (drop place reasons) assumed ≡ assumed_of (drop (place + 1) literals) (drop (place + 1) reasons) assumed
         by_some None e z = absurd (let w : true ≡ false = z in cc)
         by_some (Some number) e z = by_reason (Some number) e
-
--- none is left
-pub none_left : (literals : List Lit) (reasons : List (Option ℕ)) (assumed : List Lit) (place : ℕ) → length literals ≤ place → assumed_of (drop place literals) (drop place reasons) assumed ≡ 0
-none_left literals reasons assumed place e = rw (drop_all place literals e) refl
 
 one_within : (b : Bool) (some all : ℕ) → some ≤ all → cond b (1 + some) 0 ≤ 1 + all
 one_within true some all h = omega arith

@@ -1,6 +1,6 @@
 -- A search under way, step by step.
 use Rattle.std.proofs.Common.{◌≡◌, ◌∙◌, ℕ, ◌+◌, ◌<◌, ◌≤◌, Bool, true, false, List, ◌++◌, ◌∷◌, [], ap, refl, take, length, arith}
-use Rattle.std.specs.Prelude.{Option, Some, None, Result, Ok, Err, IfOk, IfNone, ◌⊎◌}
+use Rattle.std.specs.Prelude.{None, ◌⊎◌}
 use Rattle.std.specs.List.{list_all}
 use Rattle.std.proofs.lemmas.Grind.{common_steps}
 use Rattle.prop_core.specs.declared.lit.Lit.{Lit}
@@ -74,9 +74,3 @@ longer_decided t u l vars s o b h e =
     let n : length u.literals ≡ length t.literals + 1 = rw e (grind (arith, common_steps)) in
     let v : u.vars ≡ t.vars = ap (λ (x : TrailState). x.vars) e in
     record { longer = n; within = omega arith }
-
--- what holds where a step goes on
-pub goes_on_with : {A E : Type 0} (r : Result (Option A) E) (P Q : Type 0) → IfOk r (λ o. IfNone o P) → (P → Q) → IfOk r (λ o. IfNone o Q)
-goes_on_with (Ok (Some a)) P Q h f = tt
-goes_on_with (Ok None) P Q h f = f h
-goes_on_with (Err e) P Q h f = tt

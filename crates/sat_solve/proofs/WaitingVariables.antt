@@ -1,5 +1,5 @@
 -- Variables that wait, as the trail grows and goes back.
-use Rattle.std.proofs.Common.{◌≡◌, ◌∙◌, ℕ, ◌+◌, ◌-◌, ◌<◌, ◌≤◌, Bool, true, false, ◌++◌, ◌∷◌, [], List, refl, ap, sym, length, take, get_or, arith, subst, ⊎_elim, cond}
+use Rattle.std.proofs.Common.{◌≡◌, ◌∙◌, ℕ, ◌+◌, ◌-◌, ◌<◌, ◌≤◌, Bool, true, false, ◌++◌, ◌∷◌, [], List, refl, ap, sym, length, take, get_or, arith, subst, ⊎_elim}
 use Rattle.std.specs.Prelude.{Option, Some, None, slice_get, max, replicate}
 use Rattle.std.specs.List.{list_all}
 use Rattle.std.specs.Bool.{beq}
@@ -82,9 +82,6 @@ waiting_kept waiting t u vars level w same back k var b o =
         (λ h. subst (λ (n : ℕ). waits waiting n ≡ true) v (back i.0 within (above_cut t.reasons level k.kept i.0 k.cut h (omega arith))))
         (cases_lt i.0 k.kept)
 
-abbrev one_if : Bool → ℕ
-one_if b = cond b 1 0
-
 -- an open variable waits where the trail has grown
 pub waiting_grown : (waiting : List Bool) (t u : TrailState) (vars : ℕ) → AreWaiting waiting t.literals vars → Propagates t u → AreWaiting waiting u.literals vars
 waiting_grown waiting t u vars w p var b o =
@@ -105,17 +102,6 @@ waiting_decided waiting literals l vars h var b o =
     let x = open_parts (literals ++ l ∷ []) l (open_var (literals ++ l ∷ []) (literal_of var false) l q o) in
     let t : is_true (literals ++ l ∷ []) l ≡ true = true_more literals l l ∙ or_right _ _ (same_itself l) in
     let z : true ≡ false = sym t ∙ x.0 in cc) before
-
--- back at level 0
-pub rest_from : (waiting : List Bool) (t u : TrailState) (values : List Bool) (vars spare : ℕ) → IsKeptUpTo t u 0 → IsServing vars spare u → AreWaiting waiting u.literals vars → length waiting ≡ vars → vars ≤ VAR_LIMIT → vars ≤ length values → AreAtRest waiting u values vars spare
-rest_from waiting t u values vars spare k s w n l v = record {
-  level = rw k.reasons k.cut.decided;
-  serving = s;
-  limit = l;
-  variables = n;
-  waiting_open = w;
-  values_kept = v;
-}
 
 pub more_room : (vars spare : ℕ) (t : TrailState) → IsServing vars spare t → spare + 1 ≤ t.spare → IsServing vars (spare + 1) t
 more_room vars spare t s h = record { joined = s.joined; below = s.below; literals_below = s.literals_below; enough = s.enough; room = h }

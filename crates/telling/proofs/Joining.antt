@@ -1,5 +1,5 @@
 -- Some items were told, and then further ones.
-use Rattle.std.proofs.Common.{◌≡◌, ◌∙◌, ℕ, List, [], ◌∷◌, ◌++◌, Option, Some, None, Result, Ok, Err, IsErrAnd, refl, sym, ap, subst, append-nil, append_assoc}
+use Rattle.std.proofs.Common.{◌≡◌, ◌∙◌, ℕ, List, [], ◌∷◌, ◌++◌, Option, Some, Result, Ok, Err, IsErrAnd, refl, sym, ap, subst, append-nil, append_assoc}
 use Rattle.std.specs.Option.{option_to_list}
 use Rattle.des_base.specs.Outside.{Output, Took, TookFront}
 use Rattle.telling.specs.Telling.{ComesTo, EachGoes, TellsEach}
@@ -84,9 +84,6 @@ module _ {S I : Type 0} (goes : S → I → S → Option (List ℕ) → Type 0) 
 module _ {S I : Type 0} (goes : S → I → S → Option (List ℕ) → Type 0) (undone : S → I → S → Type 0) (s : S) (item : I) (t : S) where
   pub put_whole : (text : List ℕ) (before now : Output) (rose : Type 0) → goes s item t (Some text) → Took before now (text ∷ []) → EachGoes goes undone s (item ∷ []) t before now rose (Ok tt)
   put_whole text before now rose told put = record { texts = text ∷ []; says = tells_one goes s item t (Some text) told; put = put }
-
-  pub put_none : (taken : Output) (rose : Type 0) → goes s item t None → EachGoes goes undone s (item ∷ []) t taken taken rose (Ok tt)
-  put_none taken rose told = record { texts = []; says = tells_one goes s item t None told; put = nothing_taken taken }
 
   -- it is the one that was come to
   comes_to_it : ComesTo goes s (item ∷ []) item s []
