@@ -13,6 +13,7 @@ makes it (a child begins with some 15 MiB, so less can't be told). What went wro
 On 1 December 2026, by the proved program on four shared processors of an Intel Xeon with some other work, in one piece: 4,200 small texts and 94 large ones. None ended otherwise than it may. Of
 the small ones none took more than 0.03 seconds and 18 MiB, but for a formula of 31 bytes with a large variable (192 MiB: what `check` assigns is a list up to the greatest variable). Of the large ones those that
 are left out took at most 0.1 seconds and 18 MiB. One had no answer: a `session` that asks about 2,000 alarms of one label within 1,000 steps; `diagnose` comes to the end of its budget there in 112 seconds. A question of 960 million literals, whose size is below the limit, wants more than 8 GiB.
+In a later run of that day `diagnose` hadn't ended there either when its time was up, and that question of `twin` took 12 seconds to run out of memory; none ended otherwise than it may.
 
 | Texts | Kind | Statuses (runs) | Dearest: command, bytes | Seconds | MiB | Well-formed: seconds | MiB |
 |---|---|---|---|---|---|---|---|
