@@ -27,7 +27,7 @@ use Rattle.weight_counter.specs.Scales.{place_variable}
 use Rattle.weight_counter.specs.declared.scale.Scale.{Scale}
 use Rattle.cost_least.proofs.Asked.{ends_cheapest, ends_dear, needed}
 use Rattle.cost_least.proofs.Finding.{ends_counted, found_by}
-use Rattle.cost_least.specs.Answers.{CostAsked, FinalsNegateCosts, NegatesCost, PoseCostQuestion, IsPriced, Needs, IsBetween, IsCostEvidence}
+use Rattle.cost_least.specs.Answers.{CostAsked, FinalsNegateCosts, NegatesCost, PoseCostQuestion, IsPriced, Needs, IsHalfway, IsCostEvidence}
 use Rattle.cost_least.specs.Asking.{HasAskedCost}
 use Rattle.cost_least.specs.Pricing.{ExplainsAt}
 use Rattle.cost_least.specs.Searching.{HasHalved, HasFoundCost, HasRefusedCosts, FinalsAreBelowTotal}
@@ -89,7 +89,7 @@ module _ (q : CostAsked) (code : CodedLog) (scale : Scale) where
       counted = asked.means.counted;
     }
 
-    pub halved_refuted : (b : ℕ) → IsBetween lo best.cost b → HasAskedCost q code scale (Some b) mid new before after Refuted → HasHalved q code scale old new budget after (b + 1) best
+    pub halved_refuted : (b : ℕ) → IsHalfway lo best.cost b → HasAskedCost q code scale (Some b) mid new before after Refuted → HasHalved q code scale old new budget after (b + 1) best
     halved_refuted b between asked = record {
       searching = searching_further old mid new budget before after come.searching asked.searching;
       finals = finals;
@@ -198,7 +198,7 @@ module _ (q : CostAsked) (code : CodedLog) (scale : Scale) where
         by (inl less) = less
         by (inr more) = let equal = is_b (split_negates (log_guards code) (negative (place_variable scale (scale.inputs - 1) here.0)) has.clause here.2) in let low = here.1 in omega (arith, equal, low)
 
-    pub halved_undecided : IsValidBook new → HasValues scale.first (log_guards code) → PoseCostQuestion q None (axioms_of new) (assumed_at code scale None) → lo < min best.cost (1 + MOST_COST) → left ≡ 0 → (b : ℕ) → IsBetween lo best.cost b →
+    pub halved_undecided : IsValidBook new → HasValues scale.first (log_guards code) → PoseCostQuestion q None (axioms_of new) (assumed_at code scale None) → lo < min best.cost (1 + MOST_COST) → left ≡ 0 → (b : ℕ) → IsHalfway lo best.cost b →
         Clashes (clauses_of new) (assumed_at code scale (Some b)) → HasFoundCost q budget old new (Undecided lo (Some best))
     halved_undecided valid guards unbounded less nothing b between clashes =
         let some = come.counted (omega (arith, less)) in

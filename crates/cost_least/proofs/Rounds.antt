@@ -18,7 +18,7 @@ use Rattle.cost_least.proofs.Answering.{told, guards_before}
 use Rattle.cost_least.proofs.Finding.{asked_back, coded_back, found_absent, found_later, found_nothing, found_still, refused_later, refused_still}
 use Rattle.cost_least.proofs.Halving.{halved_none, halved_quits, halved_better, halved_refuted, halved_spent, halved_cheapest, halved_dear, halved_undecided}
 use Rattle.cost_least.proofs.Weighed.{goes_both, goes_none}
-use Rattle.cost_least.specs.Answers.{CostAsked, PoseCostQuestion, IsPriced, IsBetween}
+use Rattle.cost_least.specs.Answers.{CostAsked, PoseCostQuestion, IsPriced, IsHalfway}
 use Rattle.cost_least.specs.Asking.{HasAskedCost}
 use Rattle.cost_least.specs.Searching.{AreAsked, GoesOnWeighed, HasFoundCost, HasHalved, HasRefusedCosts, MayBound, asked_of}
 use Rattle.cost_least.specs.Weighed.{AreWeighed, AreWeighedParts, log_guards, assumed_at}
@@ -68,7 +68,7 @@ module _ {R C : Type 0} (may : R → ℕ → Type 0) (gives : R → ℕ → ℕ 
     pub come_lower : AreAsked may gives answers stored net begun scale first → (better : Priced) → given ≡ Explained better → better.cost ≤ b
     come_lower own better same = (then (Explained better) same own.cost own.answered own.weighed).means.within
 
-    pub come_further : IsBetween lo best.cost b → given ≡ Refuted → HasComeTo may gives answers stored net log begun now scale first new budget after (b + 1) best
+    pub come_further : IsHalfway lo best.cost b → given ≡ Refuted → HasComeTo may gives answers stored net log begun now scale first new budget after (b + 1) best
     come_further between same = record {
       goes = goes_now;
       come = λ cost answered weighed. halved_refuted (asked_of net cost log begun) begun.code.coded scale first old new budget before after lo best (come.come cost answered weighed) b between (then Refuted same cost answered weighed);
@@ -118,7 +118,7 @@ module _ {R C : Type 0} (may : R → ℕ → Type 0) (gives : R → ℕ → ℕ 
 
     -- where the budget is spent
     pub ends_undecided : (mid now : Parts R) (old new : List BookEntry) (before after lo : ℕ) (best : Priced) (b : ℕ) (given : CostAnswer) (come : HasComeTo may gives answers stored net log begun mid scale first old budget before lo best) → GoesOnWeighed may gives mid now scale old new before after →
-        ((cost : ℕ → ℕ) → GivesCosts answers stored net cost → AreWeighed may gives cost mid scale old → HasAskedCost (asked_of net cost log now) now.code.coded scale (Some b) old new before after given) → given ≡ Spent → IsValidBook new → lo < min best.cost (1 + MOST_COST) → IsBetween lo best.cost b →
+        ((cost : ℕ → ℕ) → GivesCosts answers stored net cost → AreWeighed may gives cost mid scale old → HasAskedCost (asked_of net cost log now) now.code.coded scale (Some b) old new before after given) → given ≡ Spent → IsValidBook new → lo < min best.cost (1 + MOST_COST) → IsHalfway lo best.cost b →
         (cost : ℕ → ℕ) → GivesCosts answers stored net cost → AreWeighed may gives cost begun scale first → HasFoundCost (asked_of net cost log now) budget first new (Undecided lo (Some best))
     ends_undecided mid now old new before after lo best b given come two asked same book less between cost answered weighed =
         let here = asked_then mid now old new before after (Some b) given come.goes two asked Spent same cost answered weighed in

@@ -1,5 +1,5 @@
 -- What is found of the least total of an explanation, and what each answer means.
-use Rattle.std.specs.Prelude.{◌≡◌, ℕ, suc, ◌+◌, ◌<◌, ◌≤◌, ⊤, false, List, [], ◌∷◌, ◌++◌, Option, Some, None, IfSome, IfNone, Contains, count_by}
+use Rattle.std.specs.Prelude.{◌≡◌, ℕ, suc, ◌+◌, ◌-◌, ◌*◌, ◌<◌, ◌≤◌, ⊤, false, List, [], ◌∷◌, ◌++◌, Option, Some, None, IfSome, IfNone, Contains, count_by, min}
 use Rattle.std.specs.List.{list_any}
 use Rattle.des_net.specs.Network.{Net}
 use Rattle.event_costs.specs.declared.TheConstants.{MOST_COST}
@@ -126,16 +126,18 @@ pub record HasCostConflict (q : CostAsked) (bound : Option ℕ) (book : List Boo
   pub told : PoseCostQuestion q bound (axioms_of book) assumed
   pub clashes : Clashes (clauses_of book) assumed
 
--- a total between lo and the lesser of 1,000 and what is just below a known one
-pub record IsBetween (lo hi b : ℕ) : Type 0 where
+-- the total halfway between lo and the lesser of 1,000 and what is just below a known one
+pub record IsHalfway (lo hi b : ℕ) : Type 0 where
   pub low : lo ≤ b
   pub high : b < hi
   pub few : b ≤ MOST_COST
+  pub lower : 2 * b ≤ lo + (min hi (1 + MOST_COST) - 1)
+  pub upper : lo + (min hi (1 + MOST_COST) - 1) ≤ 2 * b + 1
 
--- If it is undecided, that is at a further conflict: of the question without a bound where no run is known, else within a total between what is refuted and what is known.
+-- If it is undecided, that is at a further conflict: of the question without a bound where no run is known, else within the total halfway between what is refuted and what is known.
 abbrev pub HasConflictAt : CostAsked → List BookEntry → ℕ → Option Priced → Type 0
 HasConflictAt q book lo None = HasCostConflict q None book
-HasConflictAt q book lo (Some priced) = (b : ℕ) × IsBetween lo priced.cost b × HasCostConflict q (Some b) book
+HasConflictAt q book lo (Some priced) = (b : ℕ) × IsHalfway lo priced.cost b × HasCostConflict q (Some b) book
 
 -- the same for an answer; of one that decides there is nothing to say
 abbrev pub HasConflictOf : CostAsked → List BookEntry → Cheap → Type 0

@@ -6,7 +6,7 @@ ghost use Rattle.event_costs.specs.declared.TheConstants.{MOST_COST};
 ghost use Rattle.least_faults.specs.Growing.{HasGrownWithin};
 ghost use Rattle.least_faults.specs.Parts.{AreReady, BelongTo};
 ghost use Rattle.least_faults.specs.declared.TheConstants.{MOST_SIZE};
-ghost use Rattle.cost_least.specs.Answers.{IsPriced, IsBetween};
+ghost use Rattle.cost_least.specs.Answers.{IsPriced, IsHalfway};
 ghost use Rattle.cost_least.specs.Costs.{cost_size};
 ghost use Rattle.cost_least.specs.Searching.{AreAsked, GoesOnWeighed, HasAnsweredCosts, asked_of, HasFoundCost, HasRefusedCosts, LeavesUnpriced};
 ghost use Rattle.cost_least.specs.Weighed.{AreWeighed, KeepsCode};
@@ -143,10 +143,10 @@ fn ceiling(hi: u32) -> u32
     hi.min(MOST_COST + 1)
 }
 
-// A total between both, which halves what is left.
+// The total halfway between both.
 fn middle(lo: u32, hi: u32) -> u32
     requires left { lo < min hi (1 + MOST_COST) }
-    ensures { IsBetween lo hi result }
+    ensures { IsHalfway lo hi result }
 {
     lo + (ceiling(hi) - lo - 1) / 2
 }
