@@ -1,20 +1,30 @@
-"""Looks whether each edit of more-edits/ can still be applied: each of its old texts stands once in its file.
+"""Looks whether each edit of more-edits/ can still be applied: each of its old texts stands once in its file, and one of them at least is code.
 
     python3 check/applies.py
 
-The gate doesn't try these edits, and without this look a change of the code would leave them behind unnoticed.
+The gate doesn't try these edits, and without this look a change of the code would leave them behind unnoticed. That an edit of contracts and definitions
+alone is refused would show nothing.
 """
 import glob
 import os
+import re
 import sys
 
 TOP = os.path.dirname(os.path.dirname(os.path.abspath(__file__)))
+# How a line of a contract begins.
+CONTRACT = re.compile(r" *(requires|ensures|ghost)\b")
+
+
+def is_code(path, text, old):
+    """Whether the old text stands on a line of code."""
+    line = text.rfind("\n", 0, text.find(old) + 1) + 1
+    return path.startswith("src/") and not CONTRACT.match(text, line)
 
 
 def why_not(edit):
     """Why an edit can't be applied, or None."""
     crate = os.path.dirname(os.path.dirname(edit))
-    texts, path, old, pairs = {}, None, None, 0
+    texts, path, old, pairs, of_code = {}, None, None, 0, False
     with open(edit, encoding="utf-8") as it:
         lines = it.read().split("\n")
     for line in lines:
@@ -32,9 +42,12 @@ def why_not(edit):
             found = texts[path].count(old)
             if found != 1:
                 return f"an old text stands {found} times in {path}"
+            of_code = of_code or is_code(path, texts[path], old)
             texts[path] = texts[path].replace(old, line[len("new:"):].removeprefix(" "))
             old, pairs = None, pairs + 1
-    return None if pairs else "it has no old and new text"
+    if not pairs:
+        return "it has no old and new text"
+    return None if of_code else "it changes no code"
 
 
 def main():
@@ -42,7 +55,7 @@ def main():
     lost = [(edit, why) for edit in edits for why in [why_not(edit)] if why]
     for edit, why in lost:
         print(f"{os.path.relpath(edit, TOP)}: {why}")
-    print(f"{len(edits)} edits stand beside the gate, of which {len(lost)} can't be applied")
+    print(f"{len(edits)} edits stand beside the gate, of which {len(lost)} can't be applied, or change no code")
     return 1 if lost else 0
 
 
