@@ -11,10 +11,9 @@ output must be whole replies: nothing, or of a session the replies to some of it
 
 A new command is a line in ROWS, once a case of files has it.
 
-On 1 December 2026, with the proved program: 15,222 runs of 27 commands, none wrong. 14,824 ended with status 9, and 398 answered as if
-nothing had been refused. `diagnose` asks for memory 299 times on a valve that tripped (2 steps) and 495 times on one that tripped again (5 steps), a `session`
-of three questions 373 times, `cheapest` (3 steps) 355, `verdicts` on three fault events 330, `proof` 316, `cnf` 291, `twin` (2 steps) 197, `replay` 134 and `check` of two steps 28 times.
-A later run of that day, once `check` held no proof, had 15,202 runs, none wrong.
+On 1 December 2026, with the proved program: 15,202 runs of 27 commands, none wrong. 14,806 ended with status 9, and 396 answered as if
+nothing had been refused. `diagnose` asks for memory 298 times on a valve that tripped (2 steps) and 494 times on one that tripped again (5 steps), a `session`
+of three questions 372 times, `cheapest` (3 steps) 355, `verdicts` on three fault events 329, `proof` 315, `cnf` 290, `twin` (2 steps) 197, `replay` 134 and `check` of two steps 29 times.
 """
 import os
 import re
