@@ -12,39 +12,39 @@ makes it (a child begins with some 15 MiB, so less can't be told). What went wro
 
 On 1 December 2026, by the proved program on four shared processors of an Intel Xeon with some other work, in one piece: 4,200 small texts and 94 large ones. None ended otherwise than it may. Of
 the small ones none took more than 0.03 seconds and 18 MiB, but for a formula of 31 bytes with a large variable (192 MiB: what `check` assigns is a list up to the greatest variable). Of the large ones those that
-are left out took at most 0.1 seconds and 18 MiB. One had no answer: a `session` that asks about 2,000 alarms of one label within 1,000 steps; `diagnose` comes to the end of its budget there in 112 seconds. A question of 960 million literals, whose size is below the limit, wants more than 8 GiB.
-In a later run of that day `diagnose` hadn't ended there either when its time was up, and that question of `twin` took 12 seconds to run out of memory; none ended otherwise than it may.
+are left out took at most 0.1 seconds and 18 MiB. One had no answer: a `session` that asks about 2,000 alarms of one label within 1,000 steps; `diagnose` comes to the end of its budget there in 114 seconds. A question of 960 million literals, whose size is below the limit, wants more than 8 GiB.
+With more other work `diagnose` hadn't ended there either when its time was up.
 
 | Texts | Kind | Statuses (runs) | Dearest: command, bytes | Seconds | MiB | Well-formed: seconds | MiB |
 |---|---|---|---|---|---|---|---|
-| a line of 16 MiB | model | 0 (2), 5 (4) | `show`, 16,777,216 | 0.35 | 177 | 0.05 | 20 |
-| a line of 16 MiB | log | 0 (1), 6 (6) | `diagnose`, 16,777,215 | 1.33 | 513 | 0.18 | 18 |
-| a line of 16 MiB | script | 0 (3), 6 (4) | `session`, 16,777,215 | 1.41 | 513 | 0.18 | 18 |
-| a line of 16 MiB | formula | 7 (4), 13 (1) | `check`, 16,777,212 | 0.27 | 120 | 0.26 | 63 |
-| a line of 16 MiB | proof | 7 (2), 13 (3) | `check`, 16,777,216 | 0.44 | 145 | 0.37 | 166 |
-| 4,000 events of one device | model | 0 (1), 10 (1) | `diagnose`, 98,533 | 0.04 | 17 | 0.02 | 17 |
-| 3,000 events of one device, 1 step | model | 17 (3) | `twin`, 73,333 | 0.03 | 17 | 0.02 | 17 |
-| 40 devices with 9 events that are seen, 1,000 steps, AFTER 100 | model | 17 (1) | `twin`, 11,839 | 3.24 | 850 | `LARGE` | |
-| 40 devices with 9 events that are seen, 1,000 steps, AFTER 1,000 | model | 0 (1) | `twin`, 11,839 | 7.34 | 3507 | `LARGE` | |
-| 960 devices with an event that is seen, 1,000 steps, AFTER 1,000 | model | 9 (1) | `twin`, 67,859 | 7.99 | 6635 | `LARGE` | |
-| 2,000 alarms with one label, without an order, 100 steps | log | 10 (1) | `diagnose`, 26,890 | 1.09 | 188 | 0.10 | 33 |
-| 2,000 alarms with one label, without an order, 1,000 steps | log | 11 (1) | `diagnose`, 26,890 | 111.62 | 1841 | 1.08 | 302 |
-| 2,000 alarms that no event tells, without an order, 1,000 steps | log | 10 (1) | `diagnose`, 26,890 | 1.58 | 450 | 1.06 | 302 |
-| 2,000 alarms with one of 64 labels, without an order, 31 steps | log | 11 (1) | `diagnose`, 152,890 | 0.20 | 61 | 0.07 | 17 |
-| 2,000 alarms with one of 64 labels, without an order, 32 steps | log | 11 (1) | `diagnose`, 152,890 | 0.20 | 63 | 0.07 | 18 |
-| 2,000 alarms with 64 labels of 64 signs, without an order, 1 step | log | 11 (1) | `diagnose`, 8,342,890 | 2.08 | 159 | 0.11 | 17 |
-| 2,000 alarms with 64 labels of 64 signs, without an order, 2 steps | log | 11 (1) | `diagnose`, 8,342,890 | 4.42 | 289 | 0.11 | 17 |
-| 2,000 alarms with one label, without an order, 100 steps | script | 0 (1) | `session`, 26,894 | 1.01 | 176 | 0.07 | 28 |
-| 2,000 alarms with one label, without an order, 1,000 steps | script | no answer (1) | `session`, 26,894 | 117.39 | 1650 | 0.64 | 255 |
-| 2,000 alarms that no event tells, without an order, 1,000 steps | script | 0 (1) | `session`, 26,894 | 2.31 | 431 | 0.64 | 255 |
-| 2,000 alarms with one of 64 labels, without an order, 31 steps | script | 0 (1) | `session`, 152,894 | 0.22 | 54 | 0.08 | 19 |
-| 2,000 alarms with one of 64 labels, without an order, 32 steps | script | 0 (1) | `session`, 152,894 | 0.23 | 54 | 0.08 | 17 |
-| 2,000 alarms with 64 labels of 64 signs, without an order, 1 step | script | 0 (1) | `session`, 8,342,894 | 2.78 | 176 | 0.11 | 17 |
-| 2,000 alarms with 64 labels of 64 signs, without an order, 2 steps | script | 0 (1) | `session`, 8,342,894 | 4.89 | 321 | 0.11 | 17 |
-| 4,000,000 events | run | 0 (1) | `trace`, 20,000,012 | 0.49 | 173 | 0.50 | 173 |
-| 4,000,000 events | run | 13 (2) | `replay`, 32,000,012 | 1.12 | 306 | 0.51 | 184 |
-| 4,000,000 events with names of 64 signs | run | 0 (1) | `trace`, 520,000,012 | 3.51 | 955 | 1.88 | 650 |
-| 100,000,000 variables | formula | 7 (2), 13 (1) | `check`, 400,000,026 | 8.13 | 1527 | 6.30 | 1473 |
+| a line of 16 MiB | model | 0 (2), 5 (4) | `show`, 16,777,216 | 0.33 | 177 | 0.05 | 20 |
+| a line of 16 MiB | log | 0 (1), 6 (6) | `diagnose`, 16,777,215 | 1.34 | 513 | 0.18 | 18 |
+| a line of 16 MiB | script | 0 (3), 6 (4) | `session`, 16,777,215 | 1.44 | 513 | 0.17 | 18 |
+| a line of 16 MiB | formula | 7 (4), 13 (1) | `check`, 16,777,212 | 0.28 | 120 | 0.28 | 63 |
+| a line of 16 MiB | proof | 7 (2), 13 (3) | `check`, 16,777,216 | 0.38 | 209 | 0.11 | 17 |
+| 4,000 events of one device | model | 0 (1), 10 (1) | `diagnose`, 98,533 | 0.05 | 17 | 0.02 | 17 |
+| 3,000 events of one device, 1 step | model | 17 (3) | `twin`, 73,333 | 0.04 | 17 | 0.02 | 17 |
+| 40 devices with 9 events that are seen, 1,000 steps, AFTER 100 | model | 17 (1) | `twin`, 11,839 | 2.82 | 815 | `LARGE` | |
+| 40 devices with 9 events that are seen, 1,000 steps, AFTER 1,000 | model | 0 (1) | `twin`, 11,839 | 7.32 | 3458 | `LARGE` | |
+| 960 devices with an event that is seen, 1,000 steps, AFTER 1,000 | model | 9 (1) | `twin`, 67,859 | 9.39 | 6635 | `LARGE` | |
+| 2,000 alarms with one label, without an order, 100 steps | log | 10 (1) | `diagnose`, 26,890 | 1.14 | 179 | 0.10 | 31 |
+| 2,000 alarms with one label, without an order, 1,000 steps | log | 11 (1) | `diagnose`, 26,890 | 114.48 | 1750 | 1.11 | 282 |
+| 2,000 alarms that no event tells, without an order, 1,000 steps | log | 10 (1) | `diagnose`, 26,890 | 1.85 | 419 | 1.10 | 282 |
+| 2,000 alarms with one of 64 labels, without an order, 31 steps | log | 11 (1) | `diagnose`, 152,890 | 0.20 | 59 | 0.07 | 17 |
+| 2,000 alarms with one of 64 labels, without an order, 32 steps | log | 11 (1) | `diagnose`, 152,890 | 0.21 | 60 | 0.07 | 17 |
+| 2,000 alarms with 64 labels of 64 signs, without an order, 1 step | log | 11 (1) | `diagnose`, 8,342,890 | 2.55 | 151 | 0.11 | 17 |
+| 2,000 alarms with 64 labels of 64 signs, without an order, 2 steps | log | 11 (1) | `diagnose`, 8,342,890 | 4.63 | 276 | 0.12 | 17 |
+| 2,000 alarms with one label, without an order, 100 steps | script | 0 (1) | `session`, 26,894 | 1.03 | 167 | 0.07 | 26 |
+| 2,000 alarms with one label, without an order, 1,000 steps | script | no answer (1) | `session`, 26,894 | 118.68 | 1559 | 0.61 | 233 |
+| 2,000 alarms that no event tells, without an order, 1,000 steps | script | 0 (1) | `session`, 26,894 | 1.58 | 400 | 0.61 | 233 |
+| 2,000 alarms with one of 64 labels, without an order, 31 steps | script | 0 (1) | `session`, 152,894 | 0.19 | 50 | 0.07 | 19 |
+| 2,000 alarms with one of 64 labels, without an order, 32 steps | script | 0 (1) | `session`, 152,894 | 0.20 | 51 | 0.07 | 17 |
+| 2,000 alarms with 64 labels of 64 signs, without an order, 1 step | script | 0 (1) | `session`, 8,342,894 | 2.71 | 160 | 0.11 | 17 |
+| 2,000 alarms with 64 labels of 64 signs, without an order, 2 steps | script | 0 (1) | `session`, 8,342,894 | 4.79 | 297 | 0.11 | 17 |
+| 4,000,000 events | run | 0 (1) | `trace`, 20,000,012 | 0.50 | 173 | 0.49 | 173 |
+| 4,000,000 events | run | 13 (2) | `replay`, 32,000,012 | 1.12 | 307 | 0.52 | 185 |
+| 4,000,000 events with names of 64 signs | run | 0 (1) | `trace`, 520,000,012 | 3.90 | 955 | 1.51 | 650 |
+| 100,000,000 variables | formula | 7 (2), 13 (1) | `check`, 400,000,026 | 8.39 | 1527 | 7.21 | 1473 |
 """
 import glob
 import itertools

@@ -52,7 +52,7 @@ begins with some 15). SECONDS was 90, by the clock, in which the two questions w
 So a question is dear by its size where there are twins, and where there are none by the steps: a fault of a heating loop that is detected takes 0.6 seconds within 20 steps and 9 within 40. AFTER makes little
 difference here. It makes one where many events can be seen, since a clause for each step and each amount up to AFTER has them all: 40 devices with 9 events each that are seen take, within 1,000 steps, 3 seconds and 799 MiB
 where AFTER is 25, 4 and 1,238 where it is 100, 8 and 1,822 where it is 200, and where it is 1,000 they ran out of the 8 GiB that bench/hostile.py gives, and had an answer in 10 (16 seconds, 6,425 MiB). On 1 December, with half the memory for each literal,
-they take 850 MiB where AFTER is 100 and 3,507 where it is 1,000 (bench/hostile.py).
+they take 815 MiB where AFTER is 100 and 3,458 where it is 1,000 (bench/hostile.py).
 """
 import os
 import sys
