@@ -3,24 +3,25 @@ use Rattle.std.proofs.Common.{◌≡◌, ◌≢◌, ◌∙◌, ◌≤◌, ◌<�
 use Rattle.std.proofs.lemmas.Option.{MatchOption-at_none}
 use Rattle.des_base.specs.CommandWords.{word_at}
 use Rattle.des_base.specs.Outside.{Took}
-use Rattle.proof_ledger.specs.Book.{BookEntry}
 use Rattle.endings.specs.declared.ending.Kind.{Kind}
 use Rattle.endings.specs.declared.stop.Stop.{Stop}
-use Rattle.endings.specs.declared.stop.Stop.TheVariants.{Usage, Load, Faulty, Long, Memory}
+use Rattle.endings.specs.declared.stop.Stop.TheVariants.{Load, Faulty, Long, Memory}
 use Rattle.endings.specs.Transcripts.{End, said, cut, broken, Ending, EndsOne, Transcript}
 use Rattle.endings.specs.Endings.{HasStatus, status_of_end, status_of_kind, ending_texts}
 use Rattle.endings.specs.Files.{Loads, StopsAt, WithFile}
 use Rattle.endings.specs.Texts.{FileKind, limit_of, fault_of_text}
 use Rattle.diagnose_cli.specs.Commands.{IsInList, command_of}
-use Rattle.diagnose_cli.specs.Tasks.{Called, Calls, MatchCalled, NamedCommand, Reply, Task, one, told_once}
+use Rattle.diagnose_cli.specs.Tasks.{Called, Calls, NamedCommand, Reply, Task, one, told_once, IfCalled, NoCommand}
 use Rattle.diagnose_cli.specs.Due.{halts, Says, Closes, InOrder, MayAnswer}
 use Rattle.diagnose_cli.specs.FilesRead.{AreBytes}
 use Rattle.diagnose_cli.specs.Outcomes.{IsUnbroken, Outcome, ShowsReply}
 use Rattle.diagnose_cli.specs.Rows.{AreRead, AreTold, CallsWith, Row}
 use Rattle.diagnose_cli.specs.Run.{Ends}
-use Rattle.diagnose_cli.proofs.Called.{called_so}
+use Rattle.diagnose_cli.proofs.Called.{called_so, of_called}
 use Rattle.diagnose_cli.proofs.FilesInOrder.{bytes_told, in_order}
-use Rattle.diagnose_cli.proofs.StopStatus.{IsStopStatus, not_low, of_stop, reply_status}
+use Rattle.diagnose_cli.proofs.StopStatus.{HasAnswer, IsStopStatus, has_answer, not_low, of_stop, reply_status}
+use Rattle.endings.specs.declared.ending.Kind.TheVariants.{Undecided}
+use Rattle.diagnose_cli.specs.Deciding.{DecidedRow, Suffices}
 
 -- ---- what is said over these texts
 
@@ -48,11 +49,6 @@ reply_said o t texts four over =
     }
 
 -- ---- over files that are told, not too long and well
-
--- the ending is neither out of memory nor a load that failed
-record HasAnswer (e : Ending) : Type 0 where
-  memory : e ≢ Err Memory
-  load : (j : ℕ) → e ≢ Err (Load j)
 
 -- a file that is told and isn't too long doesn't stop the command
 never_stops : (l : Loads) (i : ℕ) (name : List ℕ) (limit : ℕ) (bytes : List ℕ) (e : Ending) → HasAnswer e → l.held name ≡ Some bytes → length bytes ≤ limit → IsErrAnd e (StopsAt l i name limit) → ⊥
@@ -83,9 +79,6 @@ closed l words i _ files _ closes e answer read h = absurd read
 
 -- ---- what a command says that the words call
 
-pub called : (l : Loads) (words : List (List ℕ)) (book : List BookEntry) (k : Called) (t : Task Transcript) (e : Ending) → k ≡ Calls t → MatchCalled k (e ≡ Err Usage) (λ s. MayAnswer l words s book e) → MayAnswer l words t book e
-called l words book k t e is h = subst (λ (k : Called). MatchCalled k (e ≡ Err Usage) (λ s. MayAnswer l words s book e)) is h
-
 -- over some texts, whatever they are
 pub record ToldOver (o : Outcome) (t : Task Transcript) : Type 0 where
   pub texts : List (List ℕ)
@@ -114,18 +107,14 @@ module _ (o : Outcome) (t : Task Transcript) where
     due : (four : o.status ≢ 4) → o.status ≢ 9 → MayAnswer o.loads o.words t o.book (ends four).ending
     due four nine =
         let e = ends four in
-        called o.loads o.words o.book (command_of o.words) t e.ending command (e.due.says (λ p. nine (subst (λ (x : Ending). HasStatus x o.status) p e.shown))).comes
+        of_called o.words _ _ command (e.due.says (λ p. nine (subst (λ (x : Ending). HasStatus x o.status) p e.shown))).comes
 
     -- over its files, if they can be read
     pub said_in_all : (texts : List (List ℕ)) → AreRead o.loads.held o.words 1 t.files [] texts → halts t o.words texts ≡ None → IsUnbroken o.status → SaidOver o t texts
     said_in_all texts files small whole =
         let four = whole.put.written in
         let e = ends four in
-        let answer : HasAnswer e.ending = record {
-          memory = λ p. whole.put.memory (subst (λ (x : Ending). HasStatus x o.status) p e.shown);
-          load = λ j p. whole.loaded (subst (λ (x : Ending). HasStatus x o.status) p e.shown);
-        } in
-        said_by texts e.ending (MatchOption-at_none _ _ small (closed o.loads o.words 1 t.files [] texts (Closes t o.words o.book) e.ending answer files (due four whole.put.memory))) e.shown e.put
+        said_by texts e.ending (MatchOption-at_none _ _ small (closed o.loads o.words 1 t.files [] texts (Closes t o.words o.book) e.ending (has_answer e.ending o.status e.shown whole.loaded whole.put.memory) files (due four whole.put.memory))) e.shown e.put
 
     pub told_over : (IsStopStatus o.status → ⊥) → ToldOver o t
     told_over answers =
@@ -154,17 +143,26 @@ module _ (o : Outcome) (ends : o.status ≢ 4 → Ends o) (c : NamedCommand Repl
       let answers = reply_status o.status kind is in
       reply_said o (c.task word) texts (not_low o.status 4 (omega arith) (omega arith) answers) (said_over o task ends (called_so (one c) o.words listed word asks.called) texts asks.told many answers)
 
--- the reply tells an answer of which P holds; the status is that of a kind
-pub record Shown (o : Outcome) {A : Type 0} (of : A → Kind) (text : A → List ℕ) (P : A → Type 0) (kind : Kind) : Type 0 where
-  pub answer : A
-  pub holds : P answer
-  pub shown : status_of_kind kind ≡ status_of_kind (of answer)
-  pub put : Took o.before o.now (text answer ∷ [])
+-- The status is that of a kind, and the reply tells an answer of which P holds: what follows of each answer whose kind has that status follows.
+pub shown_by : (o : Outcome) {A : Type 0} (of : A → Kind) (text : A → List ℕ) (P : A → Type 0) (kind : Kind) → o.status ≡ status_of_kind kind → {Q : Reply → Type 0} → (tells : ShowsReply o Q) (answer : A) → P answer → tells.reply ≡ (of answer, text answer)
+    → {R : Type 0} → ((answer : A) → status_of_kind kind ≡ status_of_kind (of answer) → P answer → Took o.before o.now (text answer ∷ []) → R) → R
+shown_by o of text P kind is tells answer holds told follows =
+    follows answer (sym is ∙ subst (λ (r : Reply). o.status ≡ status_of_kind r.0) told tells.shown) holds (subst (λ (r : Reply). Took o.before o.now (r.1 ∷ [])) told tells.put)
 
-pub shown_by : (o : Outcome) {A : Type 0} (of : A → Kind) (text : A → List ℕ) (P : A → Type 0) (kind : Kind) → o.status ≡ status_of_kind kind → {Q : Reply → Type 0} → (tells : ShowsReply o Q) (answer : A) → P answer → tells.reply ≡ (of answer, text answer) → Shown o of text P kind
-shown_by o of text P kind is tells answer holds told = record {
-  answer = answer;
-  holds = holds;
-  shown = sym is ∙ subst (λ (r : Reply). o.status ≡ status_of_kind r.0) told tells.shown;
-  put = subst (λ (r : Reply). Took o.before o.now (r.1 ∷ [])) told tells.put;
-}
+-- ---- a budget that is large enough decides
+
+open_end : (end : End) → 11 ≡ status_of_end end → end ≡ said Undecided
+open_end (said Undecided) is = refl
+open_end _ is = absurd (omega (arith, is))
+
+pub decided : (o : Outcome) (t : Task Transcript) → (o.status ≢ 4 → Ends o) → command_of o.words ≡ Calls t → (texts : List (List ℕ)) → AreTold o.loads.held o.words 1 texts → Suffices t o.words texts → o.status ≢ 11
+decided o t ends command texts told enough is =
+    let over = said_over o t ends command texts told enough.0 (reply_status o.status Undecided is) in
+    over.says.decided enough.1 (open_end over.told.end (sym is ∙ over.shown))
+
+pub decided_row : (o : Outcome) → (o.status ≢ 4 → Ends o) → DecidedRow o
+decided_row o ends = by (command_of o.words) refl
+  where
+    by : (k : Called) → command_of o.words ≡ k → IfCalled k (λ t. (texts : List (List ℕ)) → AreTold o.loads.held o.words 1 texts → Suffices t o.words texts → o.status ≢ 11)
+    by NoCommand called = tt
+    by (Calls t) called = decided o t ends called

@@ -1,12 +1,13 @@
 -- What words call: the command that has the first one as its name, if they spell something for it.
-use Rattle.std.proofs.Common.{◌≡◌, ◌≢◌, [], ◌∷◌, bytes_eq, ◌∙◌, ℕ, List, Bool, true, false, Option, Some, None, if◌then◌else◌, nat_eq, length, ap, refl}
+use Rattle.std.proofs.Common.{◌≡◌, ◌≢◌, [], ◌∷◌, bytes_eq, ◌∙◌, ℕ, List, Bool, true, false, Option, Some, None, if◌then◌else◌, nat_eq, length, ap, refl, subst, sym, option_map}
 use Rattle.std.proofs.lemmas.Bool.{eqb-true, eq-eqb}
 use Rattle.std.proofs.lemmas.Slice.Eq.{bytes_eq-Decides}
 use Rattle.std.specs.Prelude.{⊤, cond}
 use Rattle.des_base.specs.CommandWords.{word_at}
 use Rattle.endings.specs.Transcripts.{Transcript}
 use Rattle.diagnose_cli.specs.Commands.{IsInList, command_of, named_commands}
-use Rattle.diagnose_cli.specs.Tasks.{AreWords, Called, Calls, MatchCalled, NamedCommand, NoCommand, called_among, calls_by, read_words}
+use Rattle.diagnose_cli.specs.Run.{CallsNone}
+use Rattle.diagnose_cli.specs.Tasks.{AreWords, Called, Calls, MatchCalled, NamedCommand, NoCommand, Task, called_among, calls_by, read_words}
 
 -- ---- what so many words spell
 
@@ -40,12 +41,26 @@ module _ (c : NamedCommand Transcript) (words : List (List ℕ)) (listed : IsInL
   pub called_so : (word : c.Word) → AreWords c word words → command_of words ≡ Calls (c.task word)
   called_so word are = called_by_name are.name ∙ ap (calls_by c) are.read
 
-  -- nothing, by their number or by what they spell
-  pub too_many : word_at words 0 ≡ c.name → (length words ≡ c.count → ⊥) → command_of words ≡ NoCommand
-  too_many name never = called_by_name name ∙ ap (calls_by c) (reads_none c words never)
+module _ (words : List (List ℕ)) {k : Called} (N : Type 0) (P : Task Transcript → Type 0) (called : command_of words ≡ k) where
+  -- what is so of what is called is so by the words, and back
+  pub for_called : MatchCalled k N P → MatchCalled (command_of words) N P
+  for_called h = subst (λ (j : Called). MatchCalled j N P) (sym called) h
 
-  pub not_spelled : word_at words 0 ≡ c.name → length words ≡ c.count → c.spelled words ≡ None → command_of words ≡ NoCommand
-  not_spelled name many none = called_by_name name ∙ ap (calls_by c) (reads_all c words many ∙ none)
+  pub of_called : MatchCalled (command_of words) N P → MatchCalled k N P
+  of_called h = subst (λ (j : Called). MatchCalled j N P) called h
+
+none_called : (words : List (List ℕ)) → command_of words ≡ NoCommand → CallsNone words
+none_called words none = for_called words _ _ none tt
+
+module _ (c : NamedCommand Transcript) (words : List (List ℕ)) (listed : IsInList c words) (name : word_at words 0 ≡ c.name) where
+  -- nothing, by their number,
+  pub too_many : (length words ≡ c.count → ⊥) → CallsNone words
+  too_many never = none_called words (called_by_name c words listed name ∙ ap (calls_by c) (reads_none c words never))
+
+  -- or by what they spell
+  pub not_spelled : {X : Type 0} (word : X → c.Word) → length words ≡ c.count → (r : Option X) → option_map word r ≡ c.spelled words → r ≡ None → CallsNone words
+  not_spelled word many None is none = none_called words (called_by_name c words listed name ∙ ap (calls_by c) (reads_all c words many ∙ sym is))
+  not_spelled word many (Some x) is none = cc
 
 -- ---- another name
 

@@ -1,5 +1,6 @@
 -- What `cheapest` answers where its files are read.
-use Rattle.std.proofs.Common.{◌≢◌, ◌^◌, ◌∙◌, [], ◌∷◌, ap, sym, inr, ◌≤◌, ℕ, List, length, Option, Some, arith}
+use Rattle.std.proofs.Common.{◌≡◌, ◌≢◌, ◌^◌, ◌∙◌, [], ◌∷◌, ap, sym, inr, ◌≤◌, ℕ, List, Option, Some, Result, arith}
+use Rattle.cost_least.specs.Costs.{cost_size}
 use Rattle.cost_least.specs.Answers.{CostAsked, IsCheapFound, IsRunAt}
 use Rattle.answers.specs.declared.cheap.Cheap.{Cheap}
 use Rattle.answers.specs.declared.cheap.Cheap.TheVariants.{Found, Dear, Undecided}
@@ -22,31 +23,23 @@ use Rattle.replay.specs.declared.run.RunStep.{RunStep}
 use Rattle.report.proofs.ReadsBack.{printed_runs_read_back}
 use Rattle.report.specs.ReadBack.{IsRunText}
 use Rattle.report.specs.Replies.{CheapEventsKnown, text_of_run}
-use Rattle.endings.specs.declared.ending.Kind.{Kind}
-use Rattle.diagnose_cli.specs.CheapReplies.{CheapRunReadsBack, SaysCheap, kind_of_cheap}
+use Rattle.diagnose_cli.specs.CheapReplies.{CheapRunReadsBack, SaysCheap, kind_of_cheap, reply_of_cheap}
 use Rattle.diagnose_cli.specs.Tasks.{Reply, Task, told_once}
 use Rattle.diagnose_cli.specs.Commands.{cheapest}
-use Rattle.diagnose_cli.specs.Due.{Says}
-use Rattle.endings.specs.Transcripts.{whole}
-use Rattle.diagnose_cli.proofs.Ones.{may_say}
+use Rattle.diagnose_cli.specs.Due.{ClosesOnce, EndsBySize, MayReply}
+use Rattle.endings.specs.declared.stop.Stop.{Stop}
+use Rattle.diagnose_cli.proofs.Limits.{ends_weaker}
 use Rattle.endings.specs.declared.ending.Kind.TheVariants.{Undecided as LeftOpen}
 use Rattle.diagnose_cli.specs.FilesRead.{AreReadThen, IsCaseRead}
 use Rattle.diagnose_cli.specs.Rows.{Leaves}
-use Rattle.diagnose_cli.proofs.MatchedNames.{printable}
 use Rattle.diagnose_cli.proofs.ReadOver.{over_third}
-use Rattle.diagnose_cli.proofs.RunLengths.{run_length}
-use Rattle.std.proofs.lemmas.Nat.{mul-le}
+use Rattle.diagnose_cli.proofs.PrintableRuns.{explained_printable}
 
 -- ---- its run
 
 module _ (q : CostAsked) where
   run_reads_back : (run : List RunStep) (total : ℕ) → IsNetwork q.net → IsDraft q.net → IsLog q.log → q.steps ≤ 1000 → IsRunAt q run total → IsRunText q.net run (text_of_run q.net run)
-  run_reads_back run total network drafted logged few given =
-      let known = run_known q.net (word_of run) given.explains.run in
-      let long = run_length q.net q.log q.steps run network known given.matched given.explains in
-      let most = mul-le q.steps (length q.net.components) 1000 1000 few drafted.few_comps in
-      let short = logged.few_alarms in
-      printed_runs_read_back q.net run drafted (printable q.net q.log run logged known given.matched (omega (arith, long, most, short)))
+  run_reads_back run total network drafted logged few given = printed_runs_read_back q.net run drafted (explained_printable q.net q.log q.steps run network drafted logged few given.matched given.explains)
 
   module _ (axioms : List Clause) (since : List BookEntry) (budget : ℕ) where
     pub cheap_known : (answer : Cheap) → IsCheapFound q axioms since budget answer → CheapEventsKnown q.net answer
@@ -55,11 +48,21 @@ module _ (q : CostAsked) where
     cheap_known (Undecided lo (Some priced)) h = run_known q.net (word_of priced.run) h.given.given.explains.run
     cheap_known _ h = tt
 
-    pub cheap_reads_back : (answer : Cheap) → IsNetwork q.net → IsDraft q.net → IsLog q.log → q.steps ≤ 1000 → IsCheapFound q axioms since budget answer → CheapRunReadsBack q.net answer
+    cheap_reads_back : (answer : Cheap) → IsNetwork q.net → IsDraft q.net → IsLog q.log → q.steps ≤ 1000 → IsCheapFound q axioms since budget answer → CheapRunReadsBack q.net answer
     cheap_reads_back (Found priced) network drafted logged few h = run_reads_back priced.run priced.cost network drafted logged few h.given
     cheap_reads_back (Dear run) network drafted logged few h = run_reads_back run h.total network drafted logged few h.given
     cheap_reads_back (Undecided lo (Some priced)) network drafted logged few h = run_reads_back priced.run priced.cost network drafted logged few h.given.given
     cheap_reads_back _ network drafted logged few h = tt
+
+-- what a reply says that tells it, by whatever costs
+pub cheap_said : (net : Net) (log : Log) (n : ℕ) (answer : Cheap) → IsNetwork net → IsDraft net → IsLog log → n ≤ 1000 → (cost : ℕ → ℕ) (budget : ℕ) (book : List BookEntry) → IsPricedBy net cost log n budget book answer
+    → (reply : Reply) → reply ≡ reply_of_cheap net n answer → SaysCheap net cost log n budget book reply
+cheap_said net log n answer network drafted logged few cost budget book priced reply is = record {
+  answer = answer;
+  priced = priced;
+  again = cheap_reads_back (record { net = net; cost = cost; log = log; steps = n }) _ priced.answered.since budget answer network drafted logged few priced.answered.found;
+  is = is;
+}
 
 -- ---- the costs of the text
 
@@ -67,7 +70,7 @@ module _ (q : CostAsked) where
 pub as_text : (net : Net) (prices : List ℕ) (table : List (Option ℕ)) → IsTableOf net prices table → CostAlike net (cost_at table) (cost_of net prices)
 as_text net prices table of = λ e fault. of.each e
 
-says_of_text : (net : Net) (prices : List ℕ) (table : List (Option ℕ)) (alarms : Log) (n budget : ℕ) (book : List BookEntry) (reply : Kind × List ℕ) → IsTableOf net prices table → SaysCheap net (cost_at table) alarms n budget book reply → SaysCheap net (cost_of net prices) alarms n budget book reply
+says_of_text : (net : Net) (prices : List ℕ) (table : List (Option ℕ)) (alarms : Log) (n budget : ℕ) (book : List BookEntry) (reply : Reply) → IsTableOf net prices table → SaysCheap net (cost_at table) alarms n budget book reply → SaysCheap net (cost_of net prices) alarms n budget book reply
 says_of_text net prices table alarms n budget book reply of says = record {
   answer = says.answer;
   priced = priced_alike net (cost_at table) (cost_of net prices) (as_text net prices table of) alarms n budget book says.answer says.priced;
@@ -84,18 +87,24 @@ module _ (net : Net) (cost : ℕ → ℕ) (alarms : Log) (n budget : ℕ) (book 
   cheap_decided : (reply : Reply) → SaysCheap net cost alarms n budget book reply → 3 ^ cost_variables net alarms n ≤ budget → reply.0 ≢ LeftOpen
   cheap_decided reply says enough is = none_open says.answer says.priced enough (sym (ap (λ (r : Reply). r.0) says.is) ∙ is)
 
-abbrev pub priced : (n budget : ℕ) → Task Reply
-priced n budget = cheapest.task (record { steps = n; budget = budget })
+-- ---- over the bytes of its files
 
-pub may_price : (n budget : ℕ) (words : List (List ℕ)) (book : List BookEntry) (text alarms prices : List ℕ) (table : List (Option ℕ)) (reply : Reply) → IsTableOf (network_of text) prices table → SaysCheap (network_of text) (cost_at table) (log_of alarms) n budget book reply → Says (told_once (priced n budget)) words book (text ∷ alarms ∷ prices ∷ []) (whole reply)
-may_price n budget words book text alarms prices table reply of h =
-    let says = says_of_text (network_of text) prices table (log_of alarms) n budget book reply of h in
-    may_say (priced n budget) words book (text ∷ alarms ∷ prices ∷ []) reply says (cheap_decided (network_of text) (cost_of (network_of text) prices) (log_of alarms) n budget book reply says)
+module _ (n budget : ℕ) (words : List (List ℕ)) (book : List BookEntry) (case : Case) (table : List (Option ℕ)) (texts : List (List ℕ)) (read : AreReadThen (λ ts (c : Case). IsCaseRead ts c.net c.log) (λ (c : Case) prices t. IsTableOf c.net prices t) texts case table) where
+  abbrev priced : Task Reply
+  priced = cheapest.task (record { steps = n; budget = budget })
 
--- ---- what it leaves
+  pub closes_priced : (r : Result Reply Stop) → EndsBySize (cost_size case.net case.log n) (SaysCheap case.net (cost_at table) case.log n budget book) r → ClosesOnce priced words book texts r
+  closes_priced r =
+      over_third (λ ts. ClosesOnce priced words book ts r) texts (λ net log. EndsBySize (cost_size net log n) (SaysCheap net (cost_at table) log n budget book) r) (λ net prices t. IsTableOf net prices t) table
+      (λ text alarms prices of.
+      let net = network_of text in
+      let log = log_of alarms in
+      ends_weaker (cost_size net log n) (SaysCheap net (cost_at table) log n budget book) (MayReply priced words book (text ∷ alarms ∷ prices ∷ [])) r (λ reply h.
+      let says = says_of_text net prices table log n budget book reply of h in
+      record { says = says; decided = cheap_decided net (cost_of net prices) log n budget book reply says })) case read
 
-pub prices_left : (n budget : ℕ) (words : List (List ℕ)) (book : List BookEntry) (case : Case) (table : List (Option ℕ)) → LeavesCosts case.net (cost_at table) case.log n budget book
-    → (texts : List (List ℕ)) → AreReadThen (λ ts (c : Case). IsCaseRead ts c.net c.log) (λ (c : Case) prices t. IsTableOf c.net prices t) texts case table → Leaves (told_once (priced n budget)) words texts book
-prices_left n budget words book case table left texts read =
-    over_third (λ ts. Leaves (told_once (priced n budget)) words ts book) texts (λ net log. LeavesCosts net (cost_at table) log n budget book) (λ net prices t. IsTableOf net prices t) table
-    (λ text alarms prices of h same. inr (leaves_alike (network_of text) (cost_at table) (cost_of (network_of text) prices) (as_text (network_of text) prices table of) (log_of alarms) n budget book h)) case read left
+  -- what it leaves
+  pub prices_left : LeavesCosts case.net (cost_at table) case.log n budget book → Leaves (told_once priced) words texts book
+  prices_left =
+      over_third (λ ts. Leaves (told_once priced) words ts book) texts (λ net log. LeavesCosts net (cost_at table) log n budget book) (λ net prices t. IsTableOf net prices t) table
+      (λ text alarms prices of h same. inr (leaves_alike (network_of text) (cost_at table) (cost_of (network_of text) prices) (as_text (network_of text) prices table of) (log_of alarms) n budget book h)) case read

@@ -20,7 +20,7 @@ use Rattle.diagnose_cli.specs.Tasks.{one}
 use Rattle.diagnose_cli.specs.Outcomes.{Outcome}
 use Rattle.diagnose_cli.specs.Rows.{CallsWith}
 use Rattle.diagnose_cli.specs.Run.{Ends}
-use Rattle.diagnose_cli.proofs.Answered.{Shown, reply_over, row, shown_by}
+use Rattle.diagnose_cli.proofs.Answered.{reply_over, row, shown_by}
 
 module _ (o : Outcome) (q : CostAsked) (budget : ℕ) where
   abbrev Priced : Cheap → Type 0
@@ -33,9 +33,9 @@ module _ (o : Outcome) (q : CostAsked) (budget : ℕ) where
   cheapest_of (Found priced) is holds put = record { priced = priced; given = holds.answered.found.given; cheapest = holds.answered.found.cheapest; put = put }
   cheapest_of _ is holds put = absurd (omega arith)
 
-  absent_of : (answer : Cheap) → 10 ≡ status_of_kind (kind_of_cheap answer) → Priced answer → IsAbsent q.net q.log q.steps
-  absent_of Absent is holds = holds.answered.found.absent
-  absent_of _ is holds = absurd (omega arith)
+  absent_of : (answer : Cheap) → 10 ≡ status_of_kind (kind_of_cheap answer) → Priced answer → Put answer → IsAbsent q.net q.log q.steps
+  absent_of Absent is holds put = holds.answered.found.absent
+  absent_of _ is holds put = absurd (omega arith)
 
   dear_of : (answer : Cheap) → 12 ≡ status_of_kind (kind_of_cheap answer) → Priced answer → Put answer → TellsDear o q
   dear_of (Dear run) is holds put = let h = holds.answered.found in record { run = run; total = h.total; given = h.given; dear = h.dear; put = put }
@@ -58,7 +58,7 @@ module _ (o : Outcome) (q : CostAsked) (budget : ℕ) where
 
 module _ (o : Outcome) (ends : o.status ≢ 4 → Ends o) where
   told : (n budget : ℕ) (text alarms prices : List ℕ) → CallsWith o (one cheapest_command) (record { steps = n; budget = budget }) (text ∷ alarms ∷ prices ∷ []) → (kind : Kind) → o.status ≡ status_of_kind kind
-      → let q = cost_asked text alarms prices n in Shown o kind_of_cheap (text_of_cheap q.net n) (Priced o q budget) kind
+      → {R : Type 0} → ((answer : Cheap) → status_of_kind kind ≡ status_of_kind (kind_of_cheap answer) → Priced o (cost_asked text alarms prices n) budget answer → Put o (cost_asked text alarms prices n) budget answer → R) → R
   told n budget text alarms prices asks kind is =
       let q = cost_asked text alarms prices n in
       let tells = reply_over o ends cheapest_command refl (record { steps = n; budget = budget }) (text ∷ alarms ∷ prices ∷ []) asks refl kind is in
@@ -67,8 +67,8 @@ module _ (o : Outcome) (ends : o.status ≢ 4 → Ends o) where
   pub cheap_rows : CheapRows o
   cheap_rows = record {
     answered = λ n budget text alarms prices. row o ends cheapest_command refl (record { steps = n; budget = budget }) (text ∷ alarms ∷ prices ∷ []);
-    cheapest = λ n budget text alarms prices asks is. let s = told n budget text alarms prices asks Done is in cheapest_of o (cost_asked text alarms prices n) budget s.answer s.shown s.holds s.put;
-    absent = λ n budget text alarms prices asks is. let s = told n budget text alarms prices asks NoneThere is in absent_of o (cost_asked text alarms prices n) budget s.answer s.shown s.holds;
-    dear = λ n budget text alarms prices asks is. let s = told n budget text alarms prices asks TooMany is in dear_of o (cost_asked text alarms prices n) budget s.answer s.shown s.holds s.put;
-    undecided = λ n budget text alarms prices asks is. let s = told n budget text alarms prices asks LeftOpen is in unpriced_of o (cost_asked text alarms prices n) budget s.answer s.shown s.holds s.put;
+    cheapest = λ n budget text alarms prices asks is. told n budget text alarms prices asks Done is (cheapest_of o (cost_asked text alarms prices n) budget);
+    absent = λ n budget text alarms prices asks is. told n budget text alarms prices asks NoneThere is (absent_of o (cost_asked text alarms prices n) budget);
+    dear = λ n budget text alarms prices asks is. told n budget text alarms prices asks TooMany is (dear_of o (cost_asked text alarms prices n) budget);
+    undecided = λ n budget text alarms prices asks is. told n budget text alarms prices asks LeftOpen is (unpriced_of o (cost_asked text alarms prices n) budget);
   }

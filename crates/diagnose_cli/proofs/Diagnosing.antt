@@ -1,5 +1,5 @@
 -- The run of what is found replays, and a budget that is large enough decides.
-use Rattle.std.proofs.Common.{◌≢◌, ◌≤◌, ◌^◌, ℕ, List, map, ap, sym, ◌∙◌, refl, arith}
+use Rattle.std.proofs.Common.{◌≡◌, ◌≢◌, ◌≤◌, ◌^◌, ℕ, List, map, ap, sym, ◌∙◌, arith}
 use Rattle.des_net.specs.Building.{IsDraft}
 use Rattle.des_net.specs.Network.{Net, IsNetwork}
 use Rattle.inquiries.specs.Diagnosed.{IsDiagnosed}
@@ -11,10 +11,9 @@ use Rattle.log_order.specs.Log.{Log}
 use Rattle.proof_ledger.specs.Book.{BookEntry, axiomatic}
 use Rattle.replay.specs.QuestionSize.{variable_bound}
 use Rattle.run_decode.specs.QuestionAxioms.{question_axioms, question_built}
-use Rattle.endings.specs.declared.ending.Kind.{Kind}
 use Rattle.endings.specs.declared.ending.Kind.TheVariants.{Undecided}
 use Rattle.diagnose_cli.specs.Questions.{diagnose_question, AnswersTo}
-use Rattle.diagnose_cli.specs.Replies.{kind_of_found, AnswersQuestion, SaysBenched, SaysFound}
+use Rattle.diagnose_cli.specs.Replies.{kind_of_found, reply_of_found, AnswersQuestion, SaysBenched}
 use Rattle.diagnose_cli.specs.Tasks.{Reply}
 use Rattle.gen_plant.specs.Plant.{plant_net, plant_log}
 use Rattle.diagnose_cli.proofs.RepliesReplay.{run_replays}
@@ -22,7 +21,7 @@ use Rattle.diagnose_cli.proofs.RepliesReplay.{run_replays}
 pub answers_question : (net : Net) (log : Log) (n budget : ℕ) (book : List BookEntry) (found : Found) → IsNetwork net → IsDraft net → IsLog log → n ≤ 1000 → IsDiagnosed net log n budget book found → AnswersQuestion net log n budget book found
 answers_question net log n budget book found network whole log_whole few diagnosed = record {
   diagnosed = diagnosed;
-  replays = run_replays _ _ diagnosed.answered.since net log n budget found n network whole log_whole few refl diagnosed.answered.found;
+  replays = run_replays _ _ diagnosed.answered.since net log n budget found network whole log_whole few diagnosed.answered.found;
 }
 
 -- ---- a budget that is large enough
@@ -36,10 +35,10 @@ module _ (net : Net) (log : Log) (n budget : ℕ) (book : List BookEntry) where
   found_decided _ holds enough is = cc
 
   -- the reply that tells what is found
-  pub answers_found : (reply : Kind × List ℕ) → SaysFound net log n budget book reply → AnswersTo diagnose_question budget net log n book reply
-  answers_found reply says = record {
-    says = says;
-    decided = λ enough is. found_decided says.found says.holds.diagnosed enough (sym (ap (λ (r : Kind × List ℕ). r.0) says.is) ∙ is);
+  pub found_answers : (found : Found) → IsNetwork net → IsDraft net → IsLog log → n ≤ 1000 → IsDiagnosed net log n budget book found → (reply : Reply) → reply ≡ reply_of_found net n found → AnswersTo diagnose_question budget net log n book reply
+  found_answers found network whole log_whole few diagnosed reply is = record {
+    says = record { found = found; holds = answers_question net log n budget book found network whole log_whole few diagnosed; is = is };
+    decided = λ enough undecided. found_decided found diagnosed enough (sym (ap (λ (r : Reply). r.0) is) ∙ undecided);
   }
 
 -- a summary of it

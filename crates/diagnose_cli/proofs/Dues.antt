@@ -1,24 +1,48 @@
--- What is due for the words of a command, or for words that call none.
-use Rattle.std.proofs.Common.{◌≡◌, ◌≢◌, ◌∙◌, List, ℕ, [], false, Option, IfOk, IsErrAnd, Result, Ok, Err, refl, sym, subst}
-use Rattle.std.specs.Prelude.{⊤}
+-- What is due for the words of a command, or for words that call none, and what is left in the book.
+use Rattle.std.proofs.Common.{◌≡◌, ℕ, List, Option, Some, None, Result, Ok, Err, IsOkAnd, MatchOption, refl, ◌≢◌, ◌∙◌, inl, [], length, Bool, true, false, IfOk, IsErrAnd, ap, sym, subst}
+use Rattle.proof_ledger.specs.Book.{BookEntry}
+use Rattle.endings.specs.declared.ending.Kind.{Kind}
+use Rattle.endings.specs.declared.ending.Kind.TheVariants.{Undecided}
+use Rattle.endings.specs.declared.stop.Stop.{Stop}
+use Rattle.diagnose_cli.specs.Tasks.{Reply, Task, told_once, AreWords, Called, Calls, MatchCalled, NamedCommand, NoCommand, one}
+use Rattle.diagnose_cli.specs.Due.{MayReply, Says, Closes, ClosesOnce, Due, InOrder, IsDue, halts}
+use Rattle.endings.specs.Transcripts.{End, said, Ending, Transcript, cut_short, once, whole, UnlessMemory}
+use Rattle.std.specs.Prelude.{⊤, cond}
 use Rattle.endings.specs.Files.{Loads}
 use Rattle.endings.specs.Texts.{FileKind}
-use Rattle.endings.specs.Transcripts.{Ending, Transcript, UnlessMemory, cut_short, once}
-use Rattle.endings.specs.declared.stop.Stop.{Stop}
-use Rattle.endings.specs.declared.stop.Stop.TheVariants.{Usage, Memory}
-use Rattle.proof_ledger.specs.Book.{BookEntry}
+use Rattle.endings.specs.declared.stop.Stop.TheVariants.{Memory}
+use Rattle.inquiries.specs.Begun.{IsEmptyOr}
 use Rattle.diagnose_cli.specs.Commands.{IsInList, command_of}
-use Rattle.diagnose_cli.specs.Due.{Closes, Due, IsDue, MayAnswer}
 use Rattle.diagnose_cli.specs.FilesRead.{AreBytes, StopsAmong}
-use Rattle.diagnose_cli.specs.Rows.{Leaves, LeftBy}
-use Rattle.diagnose_cli.specs.Run.{AsksNone, CallsNone, LeavesAlone, LoadsNone, SaysStop}
-use Rattle.diagnose_cli.specs.Tasks.{AreWords, Called, Calls, IfCalled, MatchCalled, NamedCommand, NoCommand, Reply, Task, one, told_once}
-use Rattle.diagnose_cli.proofs.Called.{called_so}
-use Rattle.diagnose_cli.proofs.FilesInOrder.{all_read, left_over, stops_among}
-use Rattle.diagnose_cli.proofs.Left.{empty_left}
-use Rattle.diagnose_cli.proofs.Ones.{cuts}
-use Rattle.diagnose_cli.proofs.Orders.{handed_after}
-use Rattle.diagnose_cli.proofs.SessionAnswers.{begun_for, due_for, left_for}
+use Rattle.diagnose_cli.specs.Rows.{AreTold, Leaves, LeftBy}
+use Rattle.diagnose_cli.specs.Run.{AsksNone, CallsNone, LoadsNone}
+use Rattle.diagnose_cli.proofs.Called.{called_so, for_called, of_called}
+use Rattle.diagnose_cli.proofs.FilesInOrder.{all_read, bytes_told, stops_among}
+
+module _ (t : Task Reply) (words : List (List ℕ)) (book : List BookEntry) (texts : List (List ℕ)) (reply : Reply) (may : MayReply t words book texts reply) where
+  says_whole : Says (told_once t) words book texts (whole reply)
+  says_whole = record { says = record { reply = reply; says = may.says; alone = refl; ends = refl }; decided = λ enough is. may.decided enough (same reply.0 is) }
+    where
+      same : (kind : Kind) → ◌≡◌ {A = End} (said kind) (said Undecided) → kind ≡ Undecided
+      same kind is = cc
+
+  says_cut : Says (told_once t) words book texts (cut_short reply)
+  says_cut = record { says = record { reply = reply; says = may.says; alone = refl; ends = tt }; decided = λ enough is. cc }
+
+-- after its files it stops so, or this is put of its reply
+abbrev Puts : Task Reply → List (List ℕ) → List BookEntry → List (List ℕ) → Option Stop → Ending → Type 0
+Puts t words book texts stop e = MatchOption stop (IsOkAnd e (Says (told_once t) words book texts)) (λ s. e ≡ Err s)
+
+module _ (t : Task Reply) (words : List (List ℕ)) (book : List BookEntry) (texts : List (List ℕ)) where
+  pub put_once : (stop : Option Stop) (r : Result Reply Stop) → MatchOption stop (IsOkAnd r (MayReply t words book texts)) (λ s. r ≡ Err s) → Puts t words book texts stop (once r)
+  put_once None (Ok reply) h = says_whole t words book texts reply h
+  put_once None (Err why) h = absurd h
+  put_once (Some stop) (Ok reply) h = cc
+  put_once (Some stop) (Err why) h = cc
+
+  pub put_cut : (stop : Option Stop) (reply : Reply) → MatchOption stop (MayReply t words book texts reply) (λ s. ◌≡◌ {A = Result Reply Stop} (Ok reply) (Err s)) → Puts t words book texts stop (Ok (cut_short reply))
+  put_cut None reply h = says_cut t words book texts reply h
+  put_cut (Some stop) reply h = cc
 
 -- ---- words that call nothing
 
@@ -29,71 +53,66 @@ nothing_called words none = by (command_of words) none
     by NoCommand none = refl
     by (Calls t) none = absurd none
 
-module _ (l : Loads) (words : List (List ℕ)) (book : List BookEntry) (none : command_of words ≡ NoCommand) where
-  pub usage_is_due : IsDue l words book (Err Usage)
-  usage_is_due = record { due = λ never. subst (λ (k : Called). MatchCalled k (◌≡◌ {A = Ending} (Err Usage) (Err Usage)) (λ t. MayAnswer l words t book (Err Usage))) (sym none) refl; cut = tt; begun = begun_for words NoCommand book none tt }
+-- ---- what is left in the book by words that call a command
 
-  pub usage_left : LeftBy l.held words book
-  usage_left = left_for l.held words NoCommand book none tt
+module _ (held : List ℕ → Option (List ℕ)) (words : List (List ℕ)) (t : Task Transcript) (book : List BookEntry) (called : command_of words ≡ Calls t) where
+  -- each may leave an empty book,
+  pub nothing_left : book ≡ [] → LeftBy held words book
+  nothing_left empty = for_called words _ _ called (λ texts told. by texts t.asks)
+    where
+      by : (texts : List (List ℕ)) (asks : Bool) → cond asks (length texts ≡ length t.files → IsEmptyOr (t.leaves words texts) book) ⊤
+      by texts true = λ long. inl empty
+      by texts false = tt
 
--- ---- words that call a command
+  -- or what it leaves over the bytes of its files, which are those that are told
+  pub left_over : (texts : List (List ℕ)) → AreBytes held words 1 t.files [] texts → Leaves t words texts book → LeftBy held words book
+  left_over texts read left = for_called words _ _ called (λ others told. by others told t.asks left)
+    where
+      by : (others : List (List ℕ)) → AreTold held words 1 others → (asks : Bool) → cond asks (length texts ≡ length t.files → IsEmptyOr (t.leaves words texts) book) ⊤ → cond asks (length others ≡ length t.files → IsEmptyOr (t.leaves words others) book) ⊤
+      by others told true left = λ long.
+          let same = bytes_told held words 1 t.files [] texts others read told long in
+          subst (λ (ts : List (List ℕ)). IsEmptyOr (t.leaves words ts) book) same (left (ap length same ∙ long))
+      by others told false left = tt
 
-module _ (words : List (List ℕ)) (t : Task Transcript) (called : command_of words ≡ Calls t) where
-  pub has_files : LoadsNone words → t.files ≡ []
-  has_files none = subst (λ (k : Called). IfCalled k (λ d. d.files ≡ [])) called none
+-- ---- a command with one reply, by the kinds of its files
 
-  pub asks_nothing : AsksNone words → t.asks ≡ false
-  asks_nothing none = subst (λ (k : Called). IfCalled k (λ d. d.asks ≡ false)) called none
-
-module _ (l : Loads) (words : List (List ℕ)) (t : Task Reply) (book : List BookEntry) (called : command_of words ≡ Calls (told_once t)) where
-  cut_due : (r : Result Reply Stop) → UnlessMemory r (MayAnswer l words (told_once t) book (once r)) → IfOk r (λ reply. Due l words book (Ok (cut_short reply)))
-  cut_due (Ok reply) h = due_for l words (told_once t) book (Ok (cut_short reply)) called (cuts l words t book reply (h (λ never. cc)))
-  cut_due (Err stop) h = tt
-
-  -- with one reply
-  is_due : (r : Result Reply Stop) → UnlessMemory r (MayAnswer l words (told_once t) book (once r)) → IsDue l words book r
-  is_due r h = record { due = λ never. due_for l words (told_once t) book (once r) called (h never); cut = cut_due r h; begun = begun_for words (Calls (told_once t)) book called tt }
-
--- by the kinds of its files
 module _ (c : NamedCommand Reply) (words : List (List ℕ)) (listed : IsInList (one c) words) (word : c.Word) (are : AreWords (one c) word words) (kinds : List FileKind) (has : (w : c.Word) → (c.task w).files ≡ kinds) where
   abbrev task : Task Transcript
   task = told_once (c.task word)
 
-  abbrev known : command_of words ≡ Calls task
+  pub known : command_of words ≡ Calls task
   known = called_so (one c) words listed word are
 
   pub no_kinds : LoadsNone words → kinds ≡ []
-  no_kinds none = sym (has word) ∙ has_files words task known none
+  no_kinds none = sym (has word) ∙ of_called words _ _ known none
 
   pub unasked : AsksNone words → task.asks ≡ false
-  unasked none = asks_nothing words task known none
+  unasked none = of_called words _ _ known none
 
-  -- it stops at one of them, and nothing is asked
-  pub stop_due : (l : Loads) (book : List BookEntry) (r : Result Reply Stop) (stop : Stop) → IsErrAnd r (λ e. e ≡ stop) → (stop ≢ Memory → StopsAmong l words 1 kinds [] stop) → IsDue l words book r
-  stop_due l book r stop is at =
-      is_due l words (c.task word) book known r (handed_after r stop (MayAnswer l words task book) is (λ never.
-      stops_among l words (Closes task words book) 1 task.files [] stop (subst (λ (ks : List FileKind). StopsAmong l words 1 ks [] stop) (sym (has word)) (at never))))
+  module _ (l : Loads) (book : List BookEntry) where
+    due : (e : Ending) → InOrder l words 1 kinds [] (Closes task words book) e → Due l words book e
+    due e h = for_called words _ _ known (subst (λ (ks : List FileKind). InOrder l words 1 ks [] (Closes task words book) e) (sym (has word)) h)
 
-  pub nothing_left : (held : List ℕ → Option (List ℕ)) (book : List BookEntry) → book ≡ [] → LeftBy held words book
-  nothing_left held book empty = left_for held words (Calls task) book known (λ texts told. empty_left task words texts book empty)
+    -- it stops at one of them, and nothing is asked
+    pub stop_due : (r : Result Reply Stop) (stop : Stop) → IsErrAnd r (λ e. e ≡ stop) → (stop ≢ Memory → StopsAmong l words 1 kinds [] stop) → IsDue l words book r
+    stop_due (Ok reply) stop is at = absurd is
+    stop_due (Err e) stop is at = record {
+      due = λ never. due (Err e) (stops_among l words (Closes task words book) 1 kinds [] e (subst (StopsAmong l words 1 kinds []) (sym is) (at (λ m. never (ap (λ (s : Stop). Err s) (is ∙ m))))));
+      cut = tt;
+      begun = for_called words _ _ known tt;
+    }
 
-  -- or it answers over their bytes
-  module _ (held : List ℕ → Option (List ℕ)) (book : List BookEntry) (texts : List (List ℕ)) (read : AreBytes held words 1 kinds [] texts) where
-    of_task : AreBytes held words 1 task.files [] texts
-    of_task = subst (λ (ks : List FileKind). AreBytes held words 1 ks [] texts) (sym (has word)) read
+    -- or it answers over their bytes
+    pub answer_due : (texts : List (List ℕ)) → AreBytes l.held words 1 kinds [] texts → (r : Result Reply Stop) → UnlessMemory r (ClosesOnce (c.task word) words book texts r) → IsDue l words book r
+    answer_due texts read r closes = record { due = λ never. put (once r) (put_once (c.task word) words book texts (halts task words texts) r (closes never)); cut = by r closes; begun = for_called words _ _ known tt }
+      where
+        put : (e : Ending) → Closes task words book texts e → Due l words book e
+        put e h = due e (all_read l words (Closes task words book) 1 kinds [] texts e read h)
 
-    pub answer_due : (before after : List ℕ → ℕ) (r : Result Reply Stop) → UnlessMemory r (Closes task words book texts (once r)) → let l : Loads = record { held = held; before = before; after = after } in IsDue l words book r
-    answer_due before after r closes =
-        let l : Loads = record { held = held; before = before; after = after } in
-        is_due l words (c.task word) book known r (λ never. all_read l words (Closes task words book) 1 task.files [] texts (once r) of_task (closes never))
+        by : (r : Result Reply Stop) → UnlessMemory r (ClosesOnce (c.task word) words book texts r) → IfOk r (λ reply. Due l words book (Ok (cut_short reply)))
+        by (Ok reply) closes = put (Ok (cut_short reply)) (put_cut (c.task word) words book texts (halts task words texts) reply (closes (λ never. cc)))
+        by (Err stop) closes = tt
 
-    pub answer_left : Leaves task words texts book → LeftBy held words book
-    answer_left left = left_for held words (Calls task) book known (left_over held task words book texts of_task left)
-
--- ---- a command with several replies, which has files and asks a question
-
-pub asks_all : {F B : Type 0} (c : NamedCommand Transcript) (words : List (List ℕ)) → IsInList c words → (word : c.Word) → AreWords c word words → (c.task word).files ≢ [] → (c.task word).asks ≢ false
-    → (status : ℕ) (shelf later : F) (book left : B) → (SaysStop status → left ≡ book) → LeavesAlone words status shelf later book left
-asks_all c words listed word are files asks status shelf later book left stopped =
-    let called = called_so c words listed word are in
-    record { no_load = λ none. absurd (files (has_files words (c.task word) called none)); no_question = λ none. absurd (asks (asks_nothing words (c.task word) called none)); stopped = stopped }
+  -- so it is with what is left
+  pub answer_left : (held : List ℕ → Option (List ℕ)) (book : List BookEntry) (texts : List (List ℕ)) → AreBytes held words 1 kinds [] texts → Leaves task words texts book → LeftBy held words book
+  answer_left held book texts read left = left_over held words task book known texts (subst (λ (ks : List FileKind). AreBytes held words 1 ks [] texts) (sym (has word)) read) left

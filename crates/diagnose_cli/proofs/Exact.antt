@@ -17,6 +17,7 @@ use Rattle.diagnose_cli.specs.Exact.{past, first_stop, stop_of_command, StopRow}
 use Rattle.diagnose_cli.specs.Outcomes.{Outcome}
 use Rattle.diagnose_cli.specs.Run.{Ends}
 use Rattle.des_base.proofs.BoolLemmas.{is_less, not_less}
+use Rattle.diagnose_cli.proofs.StopStatus.{HasAnswer, has_answer}
 
 -- e is the stop that is stated, if one is
 abbrev Is : Ending → Option Stop → Type 0
@@ -39,12 +40,12 @@ past_here None e rest P h f = f h
 past_here (Some text) e rest P h f = h
 
 -- it stopped at a file, neither by its load nor since memory ran out
-stopped_here : (l : Loads) (i : ℕ) (name : List ℕ) (limit : ℕ) (e : Ending) (rest : List ℕ → Option Stop) → e ≢ Err Memory → ((j : ℕ) → e ≢ Err (Load j)) → IsErrAnd e (StopsAt l i name limit)
+stopped_here : (l : Loads) (i : ℕ) (name : List ℕ) (limit : ℕ) (e : Ending) (rest : List ℕ → Option Stop) → HasAnswer e → IsErrAnd e (StopsAt l i name limit)
     → Is e (option_and_then (λ bytes. if nat_lt limit (length bytes) then Some (Long i) else rest bytes) (l.held name))
-stopped_here l i name limit (Err (Load j)) rest m n h = absurd (n j refl)
-stopped_here l i name limit (Err (Long j)) rest m n h = long_here (l.held name) (Err (Long j)) i limit rest (ap (λ k. Err (Long k)) h.0) h.1
-stopped_here l i name limit (Err Memory) rest m n h = absurd (m refl)
-stopped_here l i name limit _ rest m n h = absurd h
+stopped_here l i name limit (Err (Load j)) rest answer h = absurd (answer.load j refl)
+stopped_here l i name limit (Err (Long j)) rest answer h = long_here (l.held name) (Err (Long j)) i limit rest (ap (λ k. Err (Long k)) h.0) h.1
+stopped_here l i name limit (Err Memory) rest answer h = absurd (answer.memory refl)
+stopped_here l i name limit _ rest answer h = absurd h
 
 -- nor by a file: then by what stops it after them, if something does
 closes_here : (o : Option Stop) (e : Ending) (says : Transcript → Type 0) → MatchOption o (IsOkAnd e says) (λ stop. e ≡ Err stop) → Is e o
@@ -52,21 +53,20 @@ closes_here None e says h = tt
 closes_here (Some stop) e says h = h
 
 in_order_exact : (l : Loads) (words : List (List ℕ)) (i : ℕ) (kinds : List FileKind) (files : List (List ℕ)) (closes : List (List ℕ) → Ending → Type 0) (halting : List (List ℕ) → Option Stop) (e : Ending)
-    → ((texts : List (List ℕ)) → closes texts e → Is e (halting texts)) → e ≢ Err Memory → ((j : ℕ) → e ≢ Err (Load j)) → InOrder l words i kinds files closes e → Is e (first_stop l.held words i kinds files halting)
-in_order_exact l words i [] files closes halting e f m n h = f files h
-in_order_exact l words i (kind ∷ kinds) files closes halting e f m n h =
+    → ((texts : List (List ℕ)) → closes texts e → Is e (halting texts)) → HasAnswer e → InOrder l words i kinds files closes e → Is e (first_stop l.held words i kinds files halting)
+in_order_exact l words i [] files closes halting e f answer h = f files h
+in_order_exact l words i (kind ∷ kinds) files closes halting e f answer h =
     let rest : List ℕ → Option Stop = λ bytes. past (fault_of_text kind files bytes) (first_stop l.held words (i + 1) kinds (files ++ bytes ∷ []) halting) in
     elim h [
-      | inl s ↦ stopped_here l i (word_at words i) (limit_of kind) e rest m n s
+      | inl s ↦ stopped_here l i (word_at words i) (limit_of kind) e rest answer s
       | inr b ↦
           holds_here (l.held (word_at words i)) e i (limit_of kind) b.0 rest b.1.told b.1.fits
-          (past_here (fault_of_text kind files b.0) e _ _ b.2 (in_order_exact l words (i + 1) kinds (files ++ b.0 ∷ []) closes halting e f m n))
+          (past_here (fault_of_text kind files b.0) e _ _ b.2 (in_order_exact l words (i + 1) kinds (files ++ b.0 ∷ []) closes halting e f answer))
     ]
 
-due_exact : (l : Loads) (words : List (List ℕ)) (book : List BookEntry) (k : Called) (e : Ending)
-    → e ≢ Err Memory → ((j : ℕ) → e ≢ Err (Load j)) → MatchCalled k (e ≡ Err Usage) (λ t. MayAnswer l words t book e) → Is e (stop_of_command l.held words k)
-due_exact l words book NoCommand e m n h = h
-due_exact l words book (Calls t) e m n h = in_order_exact l words 1 t.files [] (Closes t words book) (halts t words) e (λ texts. closes_here (halts t words texts) e _) m n h
+due_exact : (l : Loads) (words : List (List ℕ)) (book : List BookEntry) (k : Called) (e : Ending) → HasAnswer e → MatchCalled k (e ≡ Err Usage) (λ t. MayAnswer l words t book e) → Is e (stop_of_command l.held words k)
+due_exact l words book NoCommand e answer h = h
+due_exact l words book (Calls t) e answer h = in_order_exact l words 1 t.files [] (Closes t words book) (halts t words) e (λ texts. closes_here (halts t words texts) e _) answer h
 
 row_here : (stop : Option Stop) (o : Outcome) (e : Ending) → Is e stop → HasStatus e o.status → Took o.before o.now (ending_texts e) → IfSome stop (λ stop. (o.status ≡ status_of_stop stop) × Took o.before o.now (texts_of_stop stop))
 row_here None o e h p t = tt
@@ -76,6 +76,5 @@ row_here (Some stop) o e h p t =
 pub stop_row : (o : Outcome) → Ends o → o.status ≢ 3 → o.status ≢ 9 → StopRow o
 stop_row o ends three nine =
     let e = ends.ending in
-    let m : e ≢ Err Memory = λ p. nine (subst (λ (x : Ending). HasStatus x o.status) p ends.shown) in
-    let k : (j : ℕ) → e ≢ Err (Load j) = λ j p. three (subst (λ (x : Ending). HasStatus x o.status) p ends.shown) in
-    row_here (stop_of_command o.loads.held o.words (command_of o.words)) o e (due_exact o.loads o.words o.book (command_of o.words) e m k (ends.due.says m).comes) ends.shown ends.put
+    let answer = has_answer e o.status ends.shown three nine in
+    row_here (stop_of_command o.loads.held o.words (command_of o.words)) o e (due_exact o.loads o.words o.book (command_of o.words) e answer (ends.due.says answer.memory).comes) ends.shown ends.put

@@ -1,20 +1,21 @@
 -- A command goes on from its files, whichever it has, or stops at one of them.
-use Rattle.std.proofs.Common.{◌≡◌, ◌≤◌, ◌<◌, ◌⊎◌, inl, inr, ℕ, ◌+◌, List, [], ◌∷◌, ◌++◌, length, Bool, true, false, Option, Some, None, IfSome, MatchOption, Ok, Err, IsErrAnd, ◌∙◌, append-nil, append_assoc, ap, refl, sym, subst, arith, nat_eq}
-use Rattle.std.proofs.lemmas.Bool.{eqb-true, eq-eqb}
-use Rattle.proof_ledger.specs.Book.{BookEntry}
+use Rattle.std.proofs.Common.{◌≡◌, ◌≢◌, ◌≤◌, ◌<◌, ◌⊎◌, inl, inr, ℕ, ◌+◌, List, [], ◌∷◌, ◌++◌, length, Option, Some, None, IfSome, MatchOption, Result, Ok, Err, IfErr, IsErrAnd, ◌∙◌, append-nil, append_assoc, ap, refl, sym, subst, arith}
 use Rattle.endings.specs.declared.stop.Stop.{Stop}
-use Rattle.endings.specs.declared.stop.Stop.TheVariants.{Faulty}
+use Rattle.endings.specs.declared.stop.Stop.TheVariants.{Faulty, Memory}
 use Rattle.endings.specs.declared.stop.FaultyText.{FaultyText}
 use Rattle.des_base.specs.CommandWords.{word_at}
 use Rattle.endings.specs.Files.{Holds, IsFileFault, IsReadAs, IsText, Loads, StopsIn}
 use Rattle.endings.specs.Texts.{FileKind, fault_of_text, limit_of}
-use Rattle.endings.specs.Transcripts.{Ending, Transcript}
-use Rattle.diagnose_cli.specs.Tasks.{Task}
+use Rattle.endings.specs.Transcripts.{Ending}
 use Rattle.diagnose_cli.specs.Due.{InOrder}
 use Rattle.diagnose_cli.specs.FilesRead.{AreBytes, AreReadAs, AreReadThen, StopsAmong}
-use Rattle.diagnose_cli.specs.Rows.{AreTold, Leaves, LeavesOver}
-use Rattle.diagnose_cli.proofs.Left.{other_left}
+use Rattle.diagnose_cli.specs.Rows.{AreTold}
 use Rattle.endings.proofs.Earlier.{stops_earlier}
+
+-- the stop is handed on from where it is found
+pub stop_handed : {A : Type 0} (r : Result A Stop) (stop : Stop) (P : Stop → Type 0) → IsErrAnd r (λ e. e ≡ stop) → (stop ≢ Memory → P stop) → IfErr r (λ s. s ≢ Memory → P s)
+stop_handed (Ok x) stop P is h = tt
+stop_handed (Err e) stop P is h = λ never. subst P (sym is) (h (λ p. never (is ∙ p)))
 
 -- ---- it goes on from file to file
 
@@ -81,8 +82,6 @@ module _ (l : Loads) (words : List (List ℕ)) (closes : List (List ℕ) → End
         | inr b ↦ past i kind kinds files b.0 b.1 (fault_of_text kind files b.0) refl (in_order (i + 1) kinds (files ++ b.0 ∷ [])) b.2
       ]
 
--- ---- what is left over them
-
 -- what is told is held
 pub same_text : (o : Option (List ℕ)) (text held : List ℕ) → o ≡ Some text → IfSome o (λ there. there ≡ held) → text ≡ held
 same_text o text held told is = subst (λ (o : Option (List ℕ)). IfSome o (λ there. there ≡ held)) told is
@@ -97,14 +96,6 @@ bytes_told held words i (kind ∷ kinds) files (text ∷ texts) (other ∷ other
     let rest = bytes_told held words (i + 1) kinds (files ++ text ∷ []) texts others read.1 told.1 (omega (arith, long)) in
     cc
 bytes_told held words i _ files _ others read told long = absurd read
-
--- what is left over the files that are read is left over those that are told
-pub left_over : (held : List ℕ → Option (List ℕ)) (t : Task Transcript) (words : List (List ℕ)) (book : List BookEntry) (texts : List (List ℕ)) → AreBytes held words 1 t.files [] texts → Leaves t words texts book → LeavesOver held words book t
-left_over held t words book texts read left others told = by (nat_eq (length others) (length t.files)) refl
-  where
-    by : (b : Bool) → nat_eq (length others) (length t.files) ≡ b → Leaves t words others book
-    by true is = subst (λ (ts : List (List ℕ)). Leaves t words ts book) (bytes_told held words 1 t.files [] texts others read told (eqb-true (length others) (length t.files) is)) left
-    by false is = other_left t words others book (λ long. let yes = eq-eqb (length others) (length t.files) long in cc)
 
 -- ---- one more behind others
 

@@ -17,17 +17,15 @@ use Rattle.diagnose_cli.specs.Questions.{NamedQuestion, cnf_question, diagnose_q
 use Rattle.diagnose_cli.specs.Rows.{Row, RowAlone}
 use Rattle.diagnose_cli.specs.Run.{Does, Ran, SaysStop}
 use Rattle.diagnose_cli.specs.Tasks.{NamedCommand, Reply, one, told_once}
-use Rattle.diagnose_cli.proofs.Answered.{row}
+use Rattle.diagnose_cli.proofs.Answered.{decided_row, row}
 use Rattle.diagnose_cli.proofs.Called.{called_so}
 use Rattle.diagnose_cli.proofs.CheapStatus.{cheap_rows}
-use Rattle.diagnose_cli.proofs.Deciding.{decided_row}
 use Rattle.diagnose_cli.proofs.EarlyStops.{load_row, no_load_failed, usage_row}
 use Rattle.diagnose_cli.proofs.Exact.{stop_row}
-use Rattle.diagnose_cli.proofs.SessionRows.{session_row}
+use Rattle.diagnose_cli.proofs.SpokenRows.{session_row, verdict_rows}
 use Rattle.diagnose_cli.proofs.StatusRows.{check_rows, diagnose_rows}
 use Rattle.diagnose_cli.proofs.StopStatus.{IsStopStatus, between, is_stop, no_stop_kind}
 use Rattle.diagnose_cli.proofs.TwinStatus.{twin_rows}
-use Rattle.diagnose_cli.proofs.VerdictStatus.{verdict_rows}
 
 -- ---- what the run of a command does that says what is due
 

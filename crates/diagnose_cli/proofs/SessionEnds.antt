@@ -1,27 +1,15 @@
 -- How a session ends that has carried out some rows: finished, or cut off or broken off at a row that it came to.
-use Rattle.std.proofs.Common.{◌≡◌, ℕ, List, [], ◌∷◌, Result, Ok, Err, refl, subst}
+use Rattle.std.proofs.Common.{◌≡◌, ℕ, List, [], Result, Ok, Err, refl, subst}
 use Rattle.alarm_session.specs.Session.{IsSessionBook, Stage, first_stage}
 use Rattle.des_base.specs.Outside.{Output}
-use Rattle.des_net.specs.Network.{Net}
-use Rattle.log_csv.specs.ScriptText.{script_of}
 use Rattle.log_csv.specs.declared.row.Row.{Row}
-use Rattle.log_order.specs.Log.{no_log}
-use Rattle.model_text.specs.ModelFaults.{network_of}
-use Rattle.proof_ledger.specs.Book.{BookEntry}
-use Rattle.replay.specs.QuestionSize.{question_size}
 use Rattle.telling.specs.Telling.{BreaksOff, ComesTo as TellsTo, EachGoes, IsCutShort, TellsEach}
 use Rattle.telling.specs.declared.each.Broken.{Broken}
 use Rattle.telling.specs.declared.each.Broken.TheVariants.{Memory, Put}
 use Rattle.endings.specs.declared.ending.Kind.TheVariants.{Done}
-use Rattle.diagnose_cli.specs.Commands.{session}
-use Rattle.diagnose_cli.specs.declared.command.Limits.{Limits}
 use Rattle.diagnose_cli.specs.declared.session_rows.Plan.{Plan}
-use Rattle.diagnose_cli.specs.Due.{Closes, EndsBySize}
-use Rattle.diagnose_cli.specs.FilesRead.{AreReadThen, IsModelRead}
-use Rattle.diagnose_cli.proofs.ReadOver.{over_script}
-use Rattle.diagnose_cli.proofs.SessionAnswers.{tells_many}
 use Rattle.endings.specs.Puts.{Speaks}
-use Rattle.diagnose_cli.specs.SessionReplies.{SessionComesTo, EndsSession, HasReplies, IsRowReplied, IsSession, IsUntold}
+use Rattle.diagnose_cli.specs.SessionReplies.{SessionComesTo, EndsSession, HasReplies, IsRowReplied, IsUntold}
 use Rattle.diagnose_cli.specs.Sessions.{MaySay, RowIsUntold, RowTells, status_of_session}
 use Rattle.endings.specs.Transcripts.{Ending, said, cut, broken}
 use Rattle.diagnose_cli.proofs.SessionFronts.{nothing_replied, row_replied, rows_told}
@@ -77,9 +65,3 @@ module _ {S : Type 0} (plan : S → Plan) (stage : S → Stage) (s : S) (rows : 
   rows_speak before now rose (Ok done) goes = speaks_said may ((stage t).book ≡ []) before now rose goes.texts Done (finished goes.texts goes.says) goes.put
   rows_speak before now rose (Err Memory) goes = speaks_broken may ((stage t).book ≡ []) before now rose goes.texts (broken_off goes.texts goes.says) goes.put
   rows_speak before now rose (Err Put) goes = speaks_cut may ((stage t).book ≡ []) before now rose goes.texts (cut_off goes.texts goes.says) goes.put.0 goes.put.1
-
--- and it closes over its files
-pub session_closes : (limits : Limits) (words : List (List ℕ)) (book : List BookEntry) (texts : List (List ℕ)) (net : Net) (rows : List Row) → AreReadThen IsModelRead (λ n lines r. r ≡ script_of lines) texts net rows → (e : Ending) → EndsBySize (question_size net no_log limits.steps) (IsSession net limits.steps limits.budget rows book) e → Closes (session.task limits) words book texts e
-session_closes limits words book texts net rows read e =
-    over_script (λ ts. Closes (session.task limits) words book ts e) texts (λ n rs. EndsBySize (question_size n no_log limits.steps) (IsSession n limits.steps limits.budget rs book) e)
-    (λ text lines. tells_many (session.task limits) words book (text ∷ lines ∷ []) (question_size (network_of text) no_log limits.steps) (IsSession (network_of text) limits.steps limits.budget (script_of lines) book) (λ told p. p) (λ enough. enough) e) net rows read

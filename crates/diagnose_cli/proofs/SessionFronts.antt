@@ -42,7 +42,7 @@ module _ (net : Net) (n budget : ℕ) (old : Stage) (row : Row) (new : Stage) wh
   row_replays (Answered found) network whole log_whole few told =
       let answered = told.tells.told.answered in
       let same : new.log ≡ old.log = told.log ∙ ap (after_row net n old.log) told.tells.question in
-      run_replays told.tells.told.meanings _ answered.since net old.log n budget found n network whole (subst IsLog same log_whole) few refl answered.found
+      run_replays told.tells.told.meanings _ answered.since net old.log n budget found network whole (subst IsLog same log_whole) few answered.found
   row_replays _ network whole log_whole few told = tt
 
   pub carried : (told : RowTold) → IsNetwork net → IsDraft net → IsLog new.log → n ≤ 1000 → IsRowTold net n budget old row new told → IsCarriedOut net n budget old row new told

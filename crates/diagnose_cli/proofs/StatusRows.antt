@@ -32,9 +32,8 @@ use Rattle.diagnose_cli.specs.Replies.{AnswersQuestion, SaysFound, kind_of_found
 use Rattle.diagnose_cli.specs.Rows.{CallsDiagnose, CheckRows, DiagnoseRows, TellsLeast, TellsMany, TellsUndecided}
 use Rattle.diagnose_cli.specs.Run.{Ends}
 use Rattle.diagnose_cli.specs.Tasks.{Task, Reply, one, told_once}
-use Rattle.diagnose_cli.proofs.Answered.{Shown, reply_over, reply_said, row, shown_by, told_over}
+use Rattle.diagnose_cli.proofs.Answered.{decided, reply_over, reply_said, row, shown_by, told_over}
 use Rattle.diagnose_cli.proofs.Called.{called_so}
-use Rattle.diagnose_cli.proofs.Deciding.{decided}
 use Rattle.diagnose_cli.proofs.FilesInOrder.{same_text}
 use Rattle.diagnose_cli.proofs.StopStatus.{not_low, reply_status}
 
@@ -78,9 +77,9 @@ module _ (o : Outcome) (net : Net) (alarms : Log) (steps budget : ℕ) where
   least_of (Explained best) is holds put = let h = holds.diagnosed.answered.found in record { best = best; given = h.given; least = h.least; put = put }
   least_of _ is holds put = absurd (omega arith)
 
-  absent_of : (found : Found) → 10 ≡ status_of_kind (kind_of_found found) → Holds found → IsAbsent net alarms steps
-  absent_of Absent is holds = holds.diagnosed.answered.found.absent
-  absent_of _ is holds = absurd (omega arith)
+  absent_of : (found : Found) → 10 ≡ status_of_kind (kind_of_found found) → Holds found → Put found → IsAbsent net alarms steps
+  absent_of Absent is holds put = holds.diagnosed.answered.found.absent
+  absent_of _ is holds put = absurd (omega arith)
 
   many_of : (found : Found) → 12 ≡ status_of_kind (kind_of_found found) → Holds found → Put found → TellsMany o net alarms steps
   many_of (Many best) is holds put = let h = holds.diagnosed.answered.found in record { best = best; given = h.given; many = h.many; put = put }
@@ -103,19 +102,19 @@ module _ (o : Outcome) (net : Net) (alarms : Log) (steps budget : ℕ) where
   undecided_of _ is holds put = absurd (omega arith)
 
 module _ (o : Outcome) (ends : o.status ≢ 4 → Ends o) where
-  found_told : (steps budget : ℕ) (text alarms : List ℕ) → CallsDiagnose o steps budget text alarms → (kind : Kind) → o.status ≡ status_of_kind kind
-      → Shown o kind_of_found (text_of_found (network_of text) steps) (Holds o (network_of text) (log_of alarms) steps budget) kind
-  found_told steps budget text alarms asks kind is =
+  told : (steps budget : ℕ) (text alarms : List ℕ) → CallsDiagnose o steps budget text alarms → (kind : Kind) → o.status ≡ status_of_kind kind
+      → {R : Type 0} → ((found : Found) → status_of_kind kind ≡ status_of_kind (kind_of_found found) → Holds o (network_of text) (log_of alarms) steps budget found → Put o (network_of text) (log_of alarms) steps budget found → R) → R
+  told steps budget text alarms asks kind is =
       let tells = reply_over o ends (asking diagnose_question) refl (steps, budget) (text ∷ alarms ∷ []) asks refl kind is in
-      let said : SaysFound (network_of text) (log_of alarms) steps budget o.book tells.reply = tells.says.says in
-      shown_by o kind_of_found (text_of_found (network_of text) steps) (Holds o (network_of text) (log_of alarms) steps budget) kind is tells said.found said.holds said.is
+      let says : SaysFound (network_of text) (log_of alarms) steps budget o.book tells.reply = tells.says.says in
+      shown_by o kind_of_found (text_of_found (network_of text) steps) (Holds o (network_of text) (log_of alarms) steps budget) kind is tells says.found says.holds says.is
 
   pub diagnose_rows : DiagnoseRows o
   diagnose_rows = record {
-    explained = λ steps budget text alarms asks is. let s = found_told steps budget text alarms asks Done is in least_of o (network_of text) (log_of alarms) steps budget s.answer s.shown s.holds s.put;
-    absent = λ steps budget text alarms asks is. let s = found_told steps budget text alarms asks NoneThere is in absent_of o (network_of text) (log_of alarms) steps budget s.answer s.shown s.holds;
-    undecided = λ steps budget text alarms asks is. let s = found_told steps budget text alarms asks LeftOpen is in undecided_of o (network_of text) (log_of alarms) steps budget s.answer s.shown s.holds s.put;
-    many = λ steps budget text alarms asks is. let s = found_told steps budget text alarms asks TooMany is in many_of o (network_of text) (log_of alarms) steps budget s.answer s.shown s.holds s.put;
+    explained = λ steps budget text alarms asks is. told steps budget text alarms asks Done is (least_of o (network_of text) (log_of alarms) steps budget);
+    absent = λ steps budget text alarms asks is. told steps budget text alarms asks NoneThere is (absent_of o (network_of text) (log_of alarms) steps budget);
+    undecided = λ steps budget text alarms asks is. told steps budget text alarms asks LeftOpen is (undecided_of o (network_of text) (log_of alarms) steps budget);
+    many = λ steps budget text alarms asks is. told steps budget text alarms asks TooMany is (many_of o (network_of text) (log_of alarms) steps budget);
     decided = λ steps budget text alarms asks enough.
         decided o (told_once ((asking diagnose_question).task (steps, budget))) ends (called_so (one (asking diagnose_question)) o.words refl (steps, budget) asks.called) (text ∷ alarms ∷ []) asks.told (refl, enough);
   }

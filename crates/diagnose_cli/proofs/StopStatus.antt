@@ -1,17 +1,26 @@
 -- Which statuses say why there is no reply.
-use Rattle.std.proofs.Common.{◌≡◌, ◌≢◌, ◌≤◌, ◌⊎◌, inl, inr, ℕ, subst, arith}
+use Rattle.std.proofs.Common.{◌≡◌, ◌≢◌, ◌≤◌, ◌⊎◌, inl, inr, ℕ, Err, subst, arith}
 use Rattle.endings.specs.declared.ending.Kind.{Kind}
 use Rattle.endings.specs.declared.ending.Kind.TheVariants.{Done}
 use Rattle.endings.specs.declared.stop.Stop.{Stop}
-use Rattle.endings.specs.declared.stop.Stop.TheVariants.{Faulty, NoFault}
+use Rattle.endings.specs.declared.stop.Stop.TheVariants.{Faulty, Load, Memory, NoFault}
 use Rattle.endings.specs.declared.stop.FaultyText.{FaultyText}
 use Rattle.endings.specs.declared.stop.FaultyText.TheVariants.{Model, Cost}
-use Rattle.endings.specs.Endings.{status_of_faulty, status_of_kind, status_of_stop}
+use Rattle.endings.specs.Endings.{HasStatus, status_of_faulty, status_of_kind, status_of_stop}
+use Rattle.endings.specs.Transcripts.{Ending}
 use Rattle.diagnose_cli.specs.Run.{SaysStop}
 
 -- none between those of the words and files and those of costs and fault events
 pub between : (status : ℕ) → SaysStop status → 9 ≤ status → status ≤ 14 → ⊥
 between status stop low high = elim stop.among [ inl a ↦ omega (arith, a, low) | inr b ↦ omega (arith, b.0, high) ]
+
+-- an ending that is neither out of memory nor a load that failed
+pub record HasAnswer (e : Ending) : Type 0 where
+  pub memory : e ≢ Err Memory
+  pub load : (j : ℕ) → e ≢ Err (Load j)
+
+pub has_answer : (e : Ending) (status : ℕ) → HasStatus e status → status ≢ 3 → status ≢ 9 → HasAnswer e
+has_answer e status shown three nine = record { memory = λ p. nine (subst (λ (x : Ending). HasStatus x status) p shown); load = λ j p. three (subst (λ (x : Ending). HasStatus x status) p shown) }
 
 -- ---- with that of memory
 

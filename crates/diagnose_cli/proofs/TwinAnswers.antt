@@ -1,5 +1,5 @@
 -- What `twin` answers where its model is read.
-use Rattle.std.proofs.Common.{inr, ◌≡◌, ◌≤◌, ◌<◌, ℕ, List, [], ◌∷◌, length, Option, Some, None, Err, IfSome, IsOkAnd, IsSomeAnd, MatchOption, sym, subst, refl, arith, All, is_none, map}
+use Rattle.std.proofs.Common.{inr, ◌≡◌, ◌≤◌, ◌<◌, ℕ, List, [], ◌∷◌, length, Option, Some, None, Result, Err, IfSome, IsOkAnd, IsSomeAnd, MatchOption, sym, subst, refl, arith, All, is_none, map}
 use Rattle.std.proofs.lemmas.List.{length-map}
 use Rattle.std.proofs.lemmas.List.Elements.{All-nil, All-cons}
 use Rattle.std.proofs.lemmas.Nat.{mul-le}
@@ -22,19 +22,17 @@ use Rattle.twin_test.specs.Tested.{IsTested, LeavesTwins, run_of_pieces, unnamed
 use Rattle.twin_test.specs.Twins.{AreAligned, twin_size}
 use Rattle.answers.specs.declared.twin.Twin.{Twin as TwinAnswer}
 use Rattle.answers.specs.declared.twin.Twin.TheVariants.{Ambiguous}
-use Rattle.endings.specs.declared.ending.Kind.{Kind}
-use Rattle.endings.specs.declared.stop.Stop.TheVariants.{NoFault}
-use Rattle.endings.specs.Transcripts.{Ending, IsOne}
-use Rattle.diagnose_cli.specs.Due.{Closes, EndsBySize, Says, above_limit, stop_by}
+use Rattle.endings.specs.declared.stop.Stop.{Stop}
+use Rattle.diagnose_cli.specs.Due.{ClosesOnce, MayReply, above_limit, stop_by}
 use Rattle.diagnose_cli.specs.FilesRead.{IsModelRead}
 use Rattle.diagnose_cli.specs.Rows.{Leaves}
-use Rattle.diagnose_cli.specs.TwinReplies.{LeavesOfWord, SaysOfWord, SaysTwin, TwinRunsReadBack}
+use Rattle.diagnose_cli.specs.TwinReplies.{LeavesOfWord, SaysOfWord, SaysTwin, TwinRunsReadBack, reply_of_twin}
 use Rattle.diagnose_cli.specs.Tasks.{Reply, Task, told_once}
 use Rattle.diagnose_cli.specs.Commands.{twin}
 use Rattle.model_text.specs.ModelFaults.{network_of}
 use Rattle.diagnose_cli.proofs.Limits.{stop_weaker}
 use Rattle.diagnose_cli.proofs.ReadOver.{over_model}
-use Rattle.diagnose_cli.proofs.RunLengths.{pieces_length}
+use Rattle.diagnose_cli.proofs.PrintableRuns.{pieces_length}
 
 -- ---- its runs
 
@@ -56,7 +54,7 @@ pieces_read_back net n pieces network drafted few aligned =
     printed_runs_read_back net (run_of_pieces pieces) drafted
     (record { known = subst (All (λ e. e < length net.events)) (sym (word_is pieces)) known; named = unnamed_names (joined pieces); few = omega (arith, length-map (joined pieces) unnamed, short, most) })
 
-pub twin_reads_back : (net : Net) (fault n d budget : ℕ) (book : List BookEntry) (answer : TwinAnswer) → IsNetwork net → IsDraft net → n ≤ 1000 → IsTested net fault n d budget book answer → TwinRunsReadBack net answer
+twin_reads_back : (net : Net) (fault n d budget : ℕ) (book : List BookEntry) (answer : TwinAnswer) → IsNetwork net → IsDraft net → n ≤ 1000 → IsTested net fault n d budget book answer → TwinRunsReadBack net answer
 twin_reads_back net fault n d budget book (Ambiguous faulty healthy) network drafted few tested =
     let runs = tested.told in (
       subst (λ (run : List RunStep). IsRunText net run (text_of_run net run)) (sym runs.faulty_run) (pieces_read_back net n runs.faulty network drafted few runs.twins.faulty),
@@ -64,39 +62,31 @@ twin_reads_back net fault n d budget book (Ambiguous faulty healthy) network dra
     )
 twin_reads_back net fault n d budget book _ network drafted few tested = tt
 
+-- what a reply says that tells it
+pub twin_said : (net : Net) (n d budget : ℕ) (answer : TwinAnswer) → IsNetwork net → IsDraft net → n ≤ 1000 → (fault : ℕ) (book : List BookEntry) → IsTested net fault n d budget book answer → (reply : Reply) → reply ≡ reply_of_twin net n answer → SaysTwin net fault n d budget book reply
+twin_said net n d budget answer network drafted few fault book tested reply is = record { answer = answer; tested = tested; again = twin_reads_back net fault n d budget book answer network drafted few tested; is = is }
+
 -- ---- how it ends
 
 pub none_of : (o : Option ℕ) → ((n : ℕ) → o ≡ Some n → ⊥) → o ≡ None
 none_of None never = refl
 none_of (Some n) never = absurd (never n refl)
 
-module _ (n d budget : ℕ) (words : List (List ℕ)) (book : List BookEntry) where
+module _ (n d budget : ℕ) (words : List (List ℕ)) (book : List BookEntry) (texts : List (List ℕ)) (net : Net) (read : IsModelRead texts net) where
   abbrev asked : Task Reply
   asked = twin.task (record { steps = n; after = d; budget = budget })
 
-  -- by the fault event and by the size
-  abbrev Ends : Net → Ending → Type 0
-  Ends net e = MatchOption (stop_by (is_none (fault_event_of net (word_at words 2))) (above_limit (twin_size net n d))) (IsOkAnd e (IsOne (SaysOfWord net (word_at words 2) n d budget book))) (λ stop. e ≡ Err stop)
+  -- where the word names this fault event, or none: by that, and by the size
+  abbrev EndsFor : Net → Option ℕ → Result Reply Stop → Type 0
+  EndsFor m event r = MatchOption (stop_by (is_none event) (above_limit (twin_size m n d))) (IsOkAnd r (λ reply. IsSomeAnd event (λ fault. SaysTwin m fault n d budget book reply))) (λ stop. r ≡ Err stop)
 
-  over_text : (texts : List (List ℕ)) (net : Net) (e : Ending) → IsModelRead texts net → Ends net e → Closes (told_once asked) words book texts e
-  over_text texts net e read h = over_model (λ ts. Closes (told_once asked) words book ts e) texts (λ m. Ends m e) (λ text well ends. stop_weaker _ (IsOne (SaysOfWord (network_of text) (word_at words 2) n d budget book)) (Says (told_once asked) words book (text ∷ [])) e (λ told says. record { says = says; decided = λ enough. absurd enough }) ends) net read h
+  pub closes_for : (event : Option ℕ) → event ≡ fault_event_of net (word_at words 2) → (r : Result Reply Stop) → EndsFor net event r → ClosesOnce asked words book texts r
+  closes_for event named r h =
+      over_model (λ ts. ClosesOnce asked words book ts r) texts (λ m. EndsFor m (fault_event_of m (word_at words 2)) r)
+      (λ text well. stop_weaker _ (SaysOfWord (network_of text) (word_at words 2) n d budget book) (MayReply asked words book (text ∷ [])) r (λ reply says. record { says = says; decided = λ enough. absurd enough })) net read (subst (λ (e : Option ℕ). EndsFor net e r) named h)
 
-  pub lacks : (texts : List (List ℕ)) (net : Net) → IsModelRead texts net → None ≡ fault_event_of net (word_at words 2) → Closes (told_once asked) words book texts (Err NoFault)
-  lacks texts net read is =
-      let e : Ending = Err NoFault in
-      over_text texts net e read (subst (λ (o : Option ℕ). MatchOption (stop_by (is_none o) (above_limit (twin_size net n d))) (IsOkAnd e (IsOne (SaysOfWord net (word_at words 2) n d budget book))) (λ stop. e ≡ Err stop)) is refl)
-
-  module _ (texts : List (List ℕ)) (net : Net) (read : IsModelRead texts net) (fault : ℕ) (named : Some fault ≡ fault_event_of net (word_at words 2)) where
-    -- with a fault event, by the size alone
-    pub ends_about : (e : Ending) → EndsBySize (twin_size net n d) (IsOne (SaysOfWord net (word_at words 2) n d budget book)) e → Closes (told_once asked) words book texts e
-    ends_about e h =
-        over_text texts net e read
-        (subst (λ (o : Option ℕ). MatchOption (stop_by (is_none o) (above_limit (twin_size net n d))) (IsOkAnd e (IsOne (SaysOfWord net (word_at words 2) n d budget book))) (λ stop. e ≡ Err stop)) named h)
-
-    pub of_word : (reply : Kind × List ℕ) → SaysTwin net fault n d budget book reply → SaysOfWord net (word_at words 2) n d budget book reply
-    of_word reply says = subst (λ (o : Option ℕ). IsSomeAnd o (λ f. SaysTwin net f n d budget book reply)) named says
-
-    pub fault_left : LeavesTwins net fault n d budget book → Leaves (told_once asked) words texts book
-    fault_left left =
-        over_model (λ ts. Leaves (told_once asked) words ts book) texts (λ m. LeavesOfWord m (word_at words 2) n d budget book) (λ text well h same. inr h) net read
-        (subst (λ (o : Option ℕ). MatchOption o (book ≡ []) (λ f. LeavesTwins net f n d budget book)) named left)
+  -- what it leaves
+  pub fault_left : (fault : ℕ) → Some fault ≡ fault_event_of net (word_at words 2) → LeavesTwins net fault n d budget book → Leaves (told_once asked) words texts book
+  fault_left fault named left =
+      over_model (λ ts. Leaves (told_once asked) words ts book) texts (λ m. LeavesOfWord m (word_at words 2) n d budget book) (λ text well h same. inr h) net read
+      (subst (λ (o : Option ℕ). MatchOption o (book ≡ []) (λ f. LeavesTwins net f n d budget book)) named left)

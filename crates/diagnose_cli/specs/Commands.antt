@@ -16,7 +16,7 @@ use Rattle.pricing.specs.LeastCost.{LeavesCosts, cost_variables}
 use Rattle.replay.specs.QuestionSize.{question_size}
 use Rattle.twin_test.specs.Twins.{twin_size}
 use Rattle.verdict_telling.specs.Left.{LeavesVerdicts}
-use Rattle.endings.specs.Texts.{model, log, script, run, cnf, lrat, costs}
+use Rattle.endings.specs.Texts.{FileKind, model, log, script, run, cnf, lrat, costs}
 use Rattle.endings.specs.Transcripts.{Transcript}
 use Rattle.diagnose_cli.specs.declared.bench_command.BenchCommand.{BenchCommand}
 use Rattle.diagnose_cli.specs.declared.command.Limits.{Limits}
@@ -28,7 +28,7 @@ use Rattle.diagnose_cli.specs.CheapReplies.{SaysCheap}
 use Rattle.diagnose_cli.specs.Questions.{AnswersTo, HasEnough, NamedQuestion, named_questions}
 use Rattle.diagnose_cli.specs.Replies.{IsEnough, SaysBenched, SaysChecked, SaysModel, SaysReplayed, SaysTraced, reply_of_log, reply_of_model}
 use Rattle.diagnose_cli.specs.SessionReplies.{IsSession}
-use Rattle.diagnose_cli.specs.Tasks.{Called, NamedCommand, OverNone, OverOne, OverThree, OverTwo, Reply, asking_nothing, called_among, calls_by, one, read_words, size_over_one, size_over_three, size_over_two}
+use Rattle.diagnose_cli.specs.Tasks.{Called, NamedCommand, OverNone, OverOne, OverThree, OverTwo, Reply, Speech, asking_nothing, called_among, calls_by, one, read_words, size_over_one, size_over_three, size_over_two, speaking}
 use Rattle.diagnose_cli.specs.TwinReplies.{LeavesOfWord, SaysOfWord}
 use Rattle.diagnose_cli.specs.VerdictReplies.{IsVerdicts}
 use Rattle.diagnose_cli.specs.Words.{limits_of, most_number, most_steps, units_of}
@@ -202,43 +202,35 @@ cheapest = record {
 
 -- ---- commands with several replies
 
--- `session MODEL SCRIPT N BUDGET`: the rows of the script one after another, additions to a log and questions about it, each with the whole budget
-abbrev pub session : NamedCommand Transcript
-session = record {
-  name = codes "session";
-  count = 5;
-  Word = Limits;
-  spelled = λ words. limits_of (word_at words 3) (word_at words 4);
-  task = λ limits. record {
-    files = model ∷ script ∷ [];
-    lacks_fault = λ words texts. false;
-    size = λ texts. size_over_two texts (λ text lines. question_size (network_of text) no_log limits.steps);
-    says = λ words book texts told. OverTwo texts (λ text lines. IsSession (network_of text) limits.steps limits.budget (script_of lines) book told);
-    asks = true;
-    leaves = λ words texts book. ⊤;
-    lost = λ book. book ≡ [];
-    enough = λ words texts. ⊥;
-  };
+-- `NAME MODEL FILE N BUDGET`: within N parallel steps, and each time with the whole budget
+abbrev pub told_often : List ℕ → List FileKind → (Limits → Speech) → NamedCommand Transcript
+told_often name files speech = record { name = name; count = 5; Word = Limits; spelled = λ words. limits_of (word_at words 3) (word_at words 4); task = λ limits. speaking files (speech limits) }
+
+-- over a model and a script: the rows of the script one after another, additions to a log and questions about it
+abbrev pub session_speech : Limits → Speech
+session_speech limits = record {
+  size = λ texts. size_over_two texts (λ text lines. question_size (network_of text) no_log limits.steps);
+  says = λ book texts told. OverTwo texts (λ text lines. IsSession (network_of text) limits.steps limits.budget (script_of lines) book told);
+  leaves = λ texts book. ⊤;
+  lost = λ book. book ≡ [];
 }
 
--- `verdicts MODEL LOG N BUDGET`: what `diagnose` says, and then of each fault event whether all explanations with that number of faults have it, some or none
-abbrev pub verdicts : NamedCommand Transcript
-verdicts = record {
-  name = codes "verdicts";
-  count = 5;
-  Word = Limits;
-  spelled = λ words. limits_of (word_at words 3) (word_at words 4);
-  task = λ limits. record {
-    files = model ∷ log ∷ [];
-    lacks_fault = λ words texts. false;
-    size = λ texts. size_over_two texts (λ text alarms. question_size (network_of text) (log_of alarms) limits.steps);
-    says = λ words book texts told. OverTwo texts (λ text alarms. IsVerdicts (network_of text) (log_of alarms) limits.steps limits.budget book told);
-    asks = true;
-    leaves = λ words texts book. OverTwo texts (λ text alarms. LeavesVerdicts (network_of text) (log_of alarms) limits.steps limits.budget book);
-    lost = λ book. ⊤;
-    enough = λ words texts. ⊥;
-  };
+-- `session MODEL SCRIPT N BUDGET`
+abbrev pub session : NamedCommand Transcript
+session = told_often (codes "session") (model ∷ script ∷ []) session_speech
+
+-- over a model and a log: what `diagnose` says, and then of each fault event whether all explanations with that number of faults have it, some or none
+abbrev pub verdicts_speech : Limits → Speech
+verdicts_speech limits = record {
+  size = λ texts. size_over_two texts (λ text alarms. question_size (network_of text) (log_of alarms) limits.steps);
+  says = λ book texts told. OverTwo texts (λ text alarms. IsVerdicts (network_of text) (log_of alarms) limits.steps limits.budget book told);
+  leaves = λ texts book. OverTwo texts (λ text alarms. LeavesVerdicts (network_of text) (log_of alarms) limits.steps limits.budget book);
+  lost = λ book. ⊤;
 }
+
+-- `verdicts MODEL LOG N BUDGET`
+abbrev pub verdicts : NamedCommand Transcript
+verdicts = told_often (codes "verdicts") (model ∷ log ∷ []) verdicts_speech
 
 -- ---- all of them
 

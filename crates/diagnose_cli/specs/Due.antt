@@ -9,7 +9,7 @@ use Rattle.endings.specs.Transcripts.{Ending, OrMemory, Transcript, UnlessMemory
 use Rattle.endings.specs.Files.{Loads, WithFile}
 use Rattle.endings.specs.Texts.{FileKind, limit_of, fault_of_text}
 use Rattle.endings.specs.declared.ending.Kind.TheVariants.{Undecided}
-use Rattle.diagnose_cli.specs.Tasks.{IfCalled, MatchCalled, Reply, Task}
+use Rattle.diagnose_cli.specs.Tasks.{IfCalled, MatchCalled, Reply, Task, told_once}
 use Rattle.diagnose_cli.specs.Commands.{command_of}
 
 -- What a command may say by its words and over the bytes of its files, where this book is left. A budget that is large enough decides.
@@ -34,7 +34,7 @@ abbrev pub halts : Task Transcript → List (List ℕ) → List (List ℕ) → O
 halts t words files = stop_by (t.lacks_fault words files) (too_large t files)
 
 -- the end of a question of this size: it is above the limit, or this is said
-abbrev pub EndsBySize : ℕ → (Transcript → Type 0) → Ending → Type 0
+abbrev pub EndsBySize : {T : Type 0} → ℕ → (T → Type 0) → Result T Stop → Type 0
 EndsBySize size says e = MatchOption (option_map (λ n. Large n) (above_limit size)) (IsOkAnd e says) (λ stop. e ≡ Err stop)
 
 -- after its files a command stops so, or says what it may
@@ -70,6 +70,15 @@ abbrev pub MayCome : Loads → List (List ℕ) → List BookEntry → Ending →
 MayCome l words book = OrMemory (StopsEmpty (Due l words book) book) (HasNotBegun words book)
 
 -- ---- one reply
+
+-- A reply that a command may give by its words and over the bytes of its files, where this book is left.
+pub record MayReply (t : Task Reply) (words : List (List ℕ)) (book : List BookEntry) (texts : List (List ℕ)) (reply : Reply) : Type 0 where
+  pub says : t.says words book texts reply
+  pub decided : t.enough words texts → reply.0 ≢ Undecided
+
+-- after its files a command with one reply stops as others do, or gives such a reply
+abbrev pub ClosesOnce : Task Reply → List (List ℕ) → List BookEntry → List (List ℕ) → Result Reply Stop → Type 0
+ClosesOnce t words book texts answer = MatchOption (halts (told_once t) words texts) (IsOkAnd answer (MayReply t words book texts)) (λ stop. answer ≡ Err stop)
 
 -- a reply that is due may also be cut short
 pub record IsDue (l : Loads) (words : List (List ℕ)) (book : List BookEntry) (answer : Result Reply Stop) : Type 0 where

@@ -1,5 +1,5 @@
 -- What a command is: the name by which words call it, what its other words spell, and what it has to do then. Each has one record of this, from which all that is said of every command is derived.
-use Rattle.std.specs.Prelude.{◌≡◌, ⊤, ℕ, List, [], ◌∷◌, length, Bool, false, cond, nat_eq, bytes_eq, if◌then◌else◌, Option, Some, None}
+use Rattle.std.specs.Prelude.{◌≡◌, ⊤, ℕ, List, [], ◌∷◌, length, Bool, true, false, cond, nat_eq, bytes_eq, if◌then◌else◌, Option, Some, None}
 use Rattle.des_base.specs.CommandWords.{word_at}
 use Rattle.proof_ledger.specs.Book.{BookEntry}
 use Rattle.endings.specs.declared.ending.Kind.{Kind}
@@ -57,6 +57,19 @@ size_over_two _ size = None
 abbrev pub size_over_three : List (List ℕ) → (List ℕ → List ℕ → List ℕ → ℕ) → Option ℕ
 size_over_three (text ∷ second ∷ third ∷ []) size = Some (size text second third)
 size_over_three _ size = None
+
+-- ---- a command that says several replies
+
+-- By the bytes of its files the size of its question, what it may say where this book is left, and what it leaves in the book, unless the book is empty; then what is so of the book where memory runs out before anything is said.
+pub record Speech : Type 1 where
+  pub size : List (List ℕ) → Option ℕ
+  pub says : List BookEntry → List (List ℕ) → Transcript → Type 0
+  pub leaves : List (List ℕ) → List BookEntry → Type 0
+  pub lost : List BookEntry → Type 0
+
+-- over files of these kinds; of no budget it is said that it decides all that is asked
+abbrev pub speaking : List FileKind → Speech → Task Transcript
+speaking files speech = record { files = files; lacks_fault = λ words texts. false; size = speech.size; says = λ words. speech.says; asks = true; leaves = λ words. speech.leaves; lost = speech.lost; enough = λ words texts. ⊥ }
 
 -- ---- a command that has a name
 

@@ -1,13 +1,13 @@
 // A command with one reply: its words are read, then its files, and it answers over them.
-ghost use Rattle.std.specs.Prelude.{◌≡◌, ◌≢◌, ℕ, List, [], true, false, length, nat_lt, option_map, IfErr, IfSome, ⊤};
+ghost use Rattle.std.specs.Prelude.{◌≡◌, ◌≢◌, ℕ, List, [], true, false, length, nat_lt, option_map, IfErr, IfSome, None, ⊤};
 ghost use Rattle.des_base.specs.CommandWords.{word_at};
 ghost use Rattle.diagnose_cli.specs.Commands.{IsInList};
-ghost use Rattle.diagnose_cli.specs.Due.{Closes, IsDue};
+ghost use Rattle.diagnose_cli.specs.Due.{ClosesOnce, IsDue};
 ghost use Rattle.diagnose_cli.specs.Rows.{Leaves, LeftBy};
-ghost use Rattle.diagnose_cli.specs.Run.{AsksNone, LoadsNone};
+ghost use Rattle.diagnose_cli.specs.Run.{AsksNone, CallsNone, LoadsNone};
 ghost use Rattle.diagnose_cli.specs.Tasks.{AreWords, NamedCommand, Reply as OneReply, one, told_once};
 ghost use Rattle.endings.specs.Files.{loads};
-ghost use Rattle.endings.specs.Transcripts.{UnlessMemory, once};
+ghost use Rattle.endings.specs.Transcripts.{UnlessMemory};
 
 use crate::reading::Reading;
 use des_base::{Shelf, WordList};
@@ -54,7 +54,7 @@ pub trait Answering {
         requires fits { fits self.now }
         requires sound { Self.Files.sound files.now }
         requires empty { book.old.entries ≡ [] }
-        ensures closes { (texts : List (List ℕ)) → Self.Files.reads texts files.now → UnlessMemory result (Closes (told_once (named.task (word self.now))) words.now book.new.entries texts (once result)) }
+        ensures closes { (texts : List (List ℕ)) → Self.Files.reads texts files.now → UnlessMemory result (ClosesOnce (named.task (word self.now)) words.now book.new.entries texts result) }
         ensures unasked { (named.task (word self.now)).asks ≡ false → book.new ≡ book.old }
         ensures stopped { IfErr result (λ stop. stop ≢ Stop.Memory → book.new ≡ book.old) }
         ensures left { (texts : List (List ℕ)) → Self.Files.reads texts files.now → Leaves (told_once (named.task (word self.now))) words.now texts book.new.entries };
@@ -64,34 +64,20 @@ pub trait Answering {
     ghost has_words: { nat_lt (length Self.Files.kinds) named.count ≡ true };
 }
 
-/// The reply to the words, of which the first is the name of the command.
-pub fn answer_as<C: Answering + Drop, F: Shelf>(
-    alloc: Global,
-    words: &WordList,
-    shelf: &mut F,
-    book: &mut Ledger,
-) -> Result<Reply, Stop>
+/// The command that the words spell, of which the first is its name.
+pub fn read_command<C: Answering>(words: &WordList) -> Option<C>
     requires name { word_at words.now 0 ≡ C.named.name }
-    requires empty { book.old.entries ≡ [] }
-    ensures due { IsDue (loads F.held F.faults shelf.old shelf.new) words.now book.new.entries result }
-    ensures no_load { LoadsNone words.now → shelf.new ≡ shelf.old }
-    ensures no_question { AsksNone words.now → book.new ≡ book.old }
-    ensures stopped { IfErr result (λ stop. stop ≢ Stop.Memory → book.new ≡ book.old) }
-    ensures left { LeftBy (F.held shelf.old) words.now book.new.entries }
+    ensures called { IfSome result (λ command. AreWords (one C.named) (C.word command) words.now) }
+    ensures fits { IfSome result C.fits }
+    ensures none { result ≡ None → CallsNone words.now }
 {
     let count = C::word_count();
     let len = words.len();
-    if len != count {
-        return Err(Stop::Usage);
-    }
-    match C::read(words) {
-        Some(command) => answer_over(alloc, words, shelf, &command, book),
-        None => Err(Stop::Usage),
-    }
+    if len == count { C::read(words) } else { None }
 }
 
-// The reply of the command that the words call.
-fn answer_over<C: Answering, F: Shelf>(
+/// The reply of the command that the words call.
+pub fn answer_over<C: Answering, F: Shelf>(
     alloc: Global,
     words: &WordList,
     shelf: &mut F,

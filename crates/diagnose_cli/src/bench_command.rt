@@ -6,7 +6,7 @@ ghost use Rattle.diagnose_cli.specs.Commands.{bench as bench_record};
 ghost use Rattle.gen_plant.specs.Plant.{most_units};
 ghost use Rattle.diagnose_cli.specs.Due.{EndsBySize};
 ghost use Rattle.diagnose_cli.specs.Replies.{SaysSummary, first_line};
-ghost use Rattle.endings.specs.Transcripts.{IsOne, UnlessMemory, once};
+ghost use Rattle.endings.specs.Transcripts.{UnlessMemory};
 ghost use Rattle.inquiries.specs.Begun.{HasAskedWithin, LeavesQuestion};
 ghost use Rattle.replay.specs.QuestionSize.{question_size};
 ghost use Rattle.telling.specs.Lines.{line_with_number};
@@ -89,7 +89,7 @@ fn bench(
 ) -> Result<Reply, Stop>
     requires steps { limits.steps ≤ MOST_STEPS }
     requires empty { book.old.entries ≡ [] }
-    ensures ends { UnlessMemory result (EndsBySize (question_size case.now.net case.now.log limits.steps) (IsOne (SaysSummary units case.now.net case.now.log limits.steps limits.budget book.new.entries)) (once result)) }
+    ensures ends { UnlessMemory result (EndsBySize (question_size case.now.net case.now.log limits.steps) (SaysSummary units case.now.net case.now.log limits.steps limits.budget book.new.entries) result) }
     ensures stopped { IfErr result (λ stop. stop ≢ Stop.Memory → book.new ≡ book.old) }
     ensures left { LeavesQuestion case.now.net case.now.log limits.steps (HasAskedWithin limits.budget) book.new.entries }
 {

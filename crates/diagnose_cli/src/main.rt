@@ -24,6 +24,7 @@ mod run;
 mod session_command;
 mod session_rows;
 mod show_command;
+mod speaking;
 mod trace_command;
 mod twin_command;
 mod verdicts_command;

@@ -313,6 +313,27 @@ impl Reading for RunOver {
     }
 }
 
+/// A network, and a script over it.
+#[derive(Drop)]
+pub struct ScriptOver {
+    pub net: Network,
+    pub script: Script,
+}
+
+impl Reading for ScriptOver {
+    ghost kinds = { model ∷ script ∷ [] };
+
+    ghost reads = { λ texts files. AreReadThen IsModelRead (λ net lines rows. rows ≡ script_of lines) texts files.net files.script };
+
+    fn fetch<F: Shelf>(alloc: Global, words: &WordList, shelf: &mut F) -> Result<ScriptOver, Stop> {
+        let Then { before, last } = Then::<Network, Script>::fetch(alloc, words, shelf)?;
+        Ok(ScriptOver {
+            net: before,
+            script: last,
+        })
+    }
+}
+
 /// A network, a log of what was seen of it, and a run over it.
 #[derive(Drop)]
 pub struct CaseRun {

@@ -2,7 +2,7 @@
 ghost use Rattle.std.specs.Prelude.{◌≡◌, ◌≤◌, [], IfSome};
 ghost use Rattle.des_base.specs.CommandWords.{word_at};
 ghost use Rattle.des_base.specs.Outside.{Rose};
-ghost use Rattle.diagnose_cli.specs.Commands.{session, verdicts};
+ghost use Rattle.diagnose_cli.specs.Commands.{session};
 ghost use Rattle.diagnose_cli.specs.Tasks.{read_words};
 ghost use Rattle.diagnose_cli.specs.Words.{most_steps};
 ghost use Rattle.endings.specs.Files.{loads};
@@ -14,7 +14,7 @@ ghost use Rattle.diagnose_cli.specs.VerdictRows.{VerdictRows};
 ghost use Rattle.diagnose_cli.specs.Run.{CallsNone, LeavesAlone, Ran, Responds};
 ghost use Rattle.telling.specs.Telling.{RisesExactlyIf};
 
-use crate::answering::{Answering, answer_as};
+use crate::answering::{Answering, answer_over, read_command};
 use crate::asking::Question;
 use crate::bench_command::BenchCommand;
 use crate::cheapest_command::CheapestCommand;
@@ -22,11 +22,12 @@ use crate::check_command::CheckCommand;
 use crate::command::{Limits, limits_of};
 use crate::generate_command::GenerateCommand;
 use crate::replay_command::ReplayCommand;
-use crate::session_command::session_command;
+use crate::session_command::SessionCommand;
 use crate::show_command::ShowCommand;
+use crate::speaking::{Speaking, speak};
 use crate::trace_command::TraceCommand;
 use crate::twin_command::TwinCommand;
-use crate::verdicts_command::verdicts_command;
+use crate::verdicts_command::VerdictsCommand;
 use des_base::{Shelf, Sink, WordList};
 use endings::{Stop, put_once};
 use inquiries::{FormulaWithin, LeastFaults, Refutation};
@@ -93,8 +94,8 @@ fn respond<F: Shelf, S: Sink>(
         "diagnose" => put_reply::<Question<LeastFaults>, F, S>(alloc, words, shelf, out, book),
         "cnf" => put_reply::<Question<FormulaWithin>, F, S>(alloc, words, shelf, out, book),
         "proof" => put_reply::<Question<Refutation>, F, S>(alloc, words, shelf, out, book),
-        "session" => put_session(alloc, words, shelf, out, book),
-        "verdicts" => put_verdicts(alloc, words, shelf, out, book),
+        "session" => put_replies::<SessionCommand, F, S>(alloc, words, shelf, out, book),
+        "verdicts" => put_replies::<VerdictsCommand, F, S>(alloc, words, shelf, out, book),
         _ => put_usage(alloc, words, shelf, out, book),
     }
 }
@@ -126,42 +127,29 @@ fn put_reply<C: Answering + Drop, F: Shelf, S: Sink>(
     requires empty { book.old.entries ≡ [] }
     ensures { Responds (outcome (loads F.held F.faults shelf.old shelf.new) words.now (S.taken out.old) (S.taken out.new) book.new.entries result) (Rose (S.faults out.old) (S.faults out.new)) shelf.old shelf.new book.old book.new (S.failures out.old) (S.failures out.new) }
 {
-    let ending = answer_as::<C, F>(alloc, words, shelf, book);
-    put_once(alloc, ending, out)
-}
-
-// Puts what a session says.
-fn put_session<F: Shelf, S: Sink>(
-    alloc: Global,
-    words: &WordList,
-    shelf: &mut F,
-    out: &mut S,
-    book: &mut Ledger,
-) -> u8
-    requires name { word_at words.now 0 ≡ session.name }
-    requires empty { book.old.entries ≡ [] }
-    ensures { Responds (outcome (loads F.held F.faults shelf.old shelf.new) words.now (S.taken out.old) (S.taken out.new) book.new.entries result) (Rose (S.faults out.old) (S.faults out.new)) shelf.old shelf.new book.old book.new (S.failures out.old) (S.failures out.new) }
-{
-    match read_limits(words) {
-        Some(limits) => session_command(alloc, words, shelf, limits, out, book),
+    match read_command::<C>(words) {
+        Some(command) => {
+            let ending = answer_over(alloc, words, shelf, &command, book);
+            put_once(alloc, ending, out)
+        }
         None => put_usage(alloc, words, shelf, out, book),
     }
 }
 
-// Puts what is said of a log and of each fault event.
-fn put_verdicts<F: Shelf, S: Sink>(
+// Puts what a command says that has several replies.
+fn put_replies<C: Speaking, F: Shelf, S: Sink>(
     alloc: Global,
     words: &WordList,
     shelf: &mut F,
     out: &mut S,
     book: &mut Ledger,
 ) -> u8
-    requires name { word_at words.now 0 ≡ verdicts.name }
+    requires name { word_at words.now 0 ≡ C.name }
     requires empty { book.old.entries ≡ [] }
     ensures { Responds (outcome (loads F.held F.faults shelf.old shelf.new) words.now (S.taken out.old) (S.taken out.new) book.new.entries result) (Rose (S.faults out.old) (S.faults out.new)) shelf.old shelf.new book.old book.new (S.failures out.old) (S.failures out.new) }
 {
     match read_limits(words) {
-        Some(limits) => verdicts_command(alloc, words, shelf, limits, out, book),
+        Some(limits) => speak::<C, F, S>(alloc, words, shelf, limits, out, book),
         None => put_usage(alloc, words, shelf, out, book),
     }
 }

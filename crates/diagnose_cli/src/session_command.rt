@@ -1,17 +1,13 @@
 // The command `session`: the rows of a script, additions to a log and questions about it, over one book.
-ghost use Rattle.std.specs.Prelude.{◌≡◌, ◌<◌, ◌≤◌, [], length, Some, IsErrOf};
+ghost use Rattle.std.specs.Prelude.{◌≡◌, ◌≤◌, [], ◌∷◌, codes, IsErrOf, refl};
 ghost use Rattle.alarm_session.specs.Session.{BeginsAs};
 ghost use Rattle.des_base.specs.Outside.{Rose};
 ghost use Rattle.des_base.specs.declared.TheConstants.{MOST_STEPS};
-ghost use Rattle.diagnose_cli.specs.Commands.{session};
-ghost use Rattle.diagnose_cli.specs.Tasks.{AreWords};
-ghost use Rattle.diagnose_cli.specs.Due.{Due, EndsBySize, HasNotBegun, StopsEmpty};
-ghost use Rattle.endings.specs.Files.{loads};
-ghost use Rattle.endings.specs.Puts.{Speaks};
-ghost use Rattle.diagnose_cli.specs.Rows.{LeftBy};
-ghost use Rattle.diagnose_cli.specs.Run.{SaysStop};
-ghost use Rattle.diagnose_cli.specs.SessionReplies.{IsSession};
+ghost use Rattle.diagnose_cli.specs.Commands.{session_speech};
 ghost use Rattle.diagnose_cli.specs.Sessions.{MaySay, status_of_session};
+ghost use Rattle.endings.specs.Puts.{Speaks};
+ghost use Rattle.endings.specs.Texts.{model, script};
+ghost use Rattle.endings.specs.declared.ending.Kind.TheVariants.{Done};
 ghost use Rattle.indep.specs.StoredTest.{IsTest};
 ghost use Rattle.log_order.specs.Log.{no_log};
 ghost use Rattle.replay.specs.QuestionSize.{question_size};
@@ -20,16 +16,13 @@ ghost use Rattle.telling.specs.Telling.{RisesExactlyIf};
 ghost use Rattle.telling.specs.declared.each.Broken.TheVariants.{Put};
 
 use crate::command::Limits;
-use crate::reading::{Reading, Then};
+use crate::reading::ScriptOver;
 use crate::session_rows::{Plan, RowTeller};
+use crate::speaking::Speaking;
 use alarm_session::Session;
-use des_base::{Memory, Shelf, Sink, WordList};
-use des_net::Network;
-use endings::{Stop, put_once};
+use des_base::{Memory, Sink};
 use indep::Indep;
 use inquiries::{NetworkSearch, set_up};
-use least_faults::MOST_SIZE;
-use log_csv::Script;
 use log_order::AlarmLog;
 use proof_ledger::Ledger;
 use sat_order::Order;
@@ -38,63 +31,60 @@ use std::alloc::Global;
 use std::mem;
 use telling::{Broken, put_each};
 
-/// Carries out the rows of a script, puts the reply to each before the next one is taken, and answers the exit status.
-pub fn session_command<F: Shelf, S: Sink>(
-    alloc: Global,
-    words: &WordList,
-    shelf: &mut F,
-    limits: Limits,
-    out: &mut S,
-    book: &mut Ledger,
-) -> u8
-    requires called { AreWords session limits words.now }
-    requires steps { limits.steps ≤ MOST_STEPS }
-    requires empty { book.old.entries ≡ [] }
-    ensures speaks { Speaks (StopsEmpty (Due (loads F.held F.faults shelf.old shelf.new) words.now book.new.entries) book.new.entries) (HasNotBegun words.now book.new.entries) (S.taken out.old) (S.taken out.new) (Rose (S.faults out.old) (S.faults out.new)) result }
-    ensures stopped { SaysStop result → book.new ≡ book.old }
-    ensures left { LeftBy (F.held shelf.old) words.now book.new.entries }
-    ensures failures { RisesExactlyIf (result ≡ 4) (S.failures out.old) (S.failures out.new) }
-{
-    match Then::<Network, Script>::fetch(alloc, words, shelf) {
-        Ok(files) => {
-            let Then { before, last } = files;
-            let plan = Plan {
-                net: before,
-                script: last,
-                limits,
-            };
-            let status = carry_out(alloc, &plan, out, book);
-            drop(plan);
-            status
-        }
-        Err(stop) => put_once(alloc, Err(stop), out),
-    }
-}
+/// Carries out the rows of a script, and puts the reply to each before the next one is taken.
+pub struct SessionCommand;
 
-// Carries them out over what is read of both files.
-fn carry_out<S: Sink>(alloc: Global, plan: &Plan, out: &mut S, book: &mut Ledger) -> u8
-    requires steps { plan.now.limits.steps ≤ MOST_STEPS }
-    requires empty { book.old.entries ≡ [] }
-    ensures speaks { Speaks (StopsEmpty (EndsBySize (question_size plan.now.net no_log plan.now.limits.steps) (IsSession plan.now.net plan.now.limits.steps plan.now.limits.budget plan.now.script book.new.entries)) book.new.entries) (book.new.entries ≡ []) (S.taken out.old) (S.taken out.new) (Rose (S.faults out.old) (S.faults out.new)) result }
-    ensures stopped { SaysStop result → book.new ≡ book.old }
-    ensures failures { RisesExactlyIf (result ≡ 4) (S.failures out.old) (S.failures out.new) }
-{
-    let size = question_size(&plan.net, &AlarmLog::new(alloc), plan.limits.steps);
-    if size > MOST_SIZE {
-        return put_once(alloc, Err(Stop::Large(size)), out);
-    }
-    status_of(carry_out_rows(alloc, plan, out, book))
-}
+impl Speaking for SessionCommand {
+    type Files = ScriptOver;
 
-// The status of a session.
-fn status_of(said: Result<(), Broken>) -> u8
-    ensures { result ≡ status_of_session said }
-{
-    match said {
-        Ok(()) => 0,
-        Err(Broken::Memory) => 9,
-        Err(Broken::Put) => 4,
+    type Told = ();
+
+    ghost name = { codes "session" };
+
+    ghost kinds = { model ∷ script ∷ [] };
+
+    ghost speech = { session_speech };
+
+    ghost listed = { λ words. refl };
+
+    ghost sized = { λ files limits. question_size files.net no_log limits.steps };
+
+    ghost kind = { λ told. Done };
+
+    fn size(alloc: Global, files: &ScriptOver, limits: Limits) -> u64 {
+        let empty = AlarmLog::new(alloc);
+        let size = question_size(&files.net, &empty, limits.steps);
+        drop(empty);
+        size
     }
+
+    fn status(_told: ()) -> u8 {
+        0
+    }
+
+    fn tell<S: Sink>(
+        alloc: Global,
+        files: ScriptOver,
+        limits: Limits,
+        out: &mut S,
+        book: &mut Ledger,
+    ) -> Result<(), Broken> {
+        let ScriptOver { net, script } = files;
+        let plan = Plan {
+            net,
+            script,
+            limits,
+        };
+        let told = carry_out_rows(alloc, &plan, out, book);
+        drop(plan);
+        told
+    }
+
+    ghost has_files = { refl };
+
+    ghost has_words = { refl };
+
+    ghost begun = { λ limits. refl };
 }
 
 // Carries out the rows.

@@ -1,8 +1,10 @@
 // The command `twin`: whether a run with a fault and a run without it look alike.
-ghost use Rattle.std.specs.Prelude.{◌≡◌, ◌<◌, ◌≤◌, ℕ, List, [], length, IfOk, refl};
+ghost use Rattle.std.specs.Prelude.{◌≡◌, ◌<◌, ◌≤◌, ℕ, List, [], length, IfOk, IfSome, refl};
+ghost use Rattle.des_base.specs.CommandWords.{word_at};
 ghost use Rattle.des_base.specs.declared.TheConstants.{MOST_STEPS};
 ghost use Rattle.diagnose_cli.specs.Commands.{twin};
 ghost use Rattle.diagnose_cli.specs.TwinReplies.{MayTest, SaysTwin, kind_of_twin, reply_of_twin};
+ghost use Rattle.event_costs.specs.CostText.{fault_event_of};
 ghost use Rattle.proof_ledger.specs.Book.{BookEntry};
 ghost use Rattle.report.specs.Replies.{TwinEventsKnown};
 ghost use Rattle.twin_test.specs.Tested.{IsTested, LeavesTwins};
@@ -66,7 +68,7 @@ impl Answering for TwinCommand {
         files: &Network,
         book: &mut Ledger,
     ) -> Result<Reply, Stop> {
-        let Some(fault) = find_fault(files, words.word(2).as_bytes()) else {
+        let Some(fault) = named_fault(files, words) else {
             return Err(Stop::NoFault);
         };
         let size = twin_size(files, self.steps, self.after);
@@ -79,6 +81,15 @@ impl Answering for TwinCommand {
     ghost has_files = { λ w. refl };
 
     ghost has_words = { refl };
+}
+
+// The fault event that the second word behind the name spells.
+fn named_fault(net: &Network, words: &WordList) -> Option<EventId>
+    requires { 2 < length words.now }
+    ensures event { result ≡ fault_event_of net.now (word_at words.now 2) }
+    ensures known { IfSome result (λ fault. fault < length net.now.events) }
+{
+    find_fault(net, words.word(2).as_bytes())
 }
 
 // The reply to a twin question that is not too large.

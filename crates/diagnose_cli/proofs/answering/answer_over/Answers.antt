@@ -4,7 +4,7 @@ use Rattle.std.proofs.lemmas.Bool.{ltb-true}
 use Rattle.endings.specs.Files.{loads}
 use Rattle.diagnose_cli.specs.Tasks.{one}
 use Rattle.diagnose_cli.proofs.Called.{counted}
-use Rattle.diagnose_cli.proofs.Dues.{answer_due, answer_left, no_kinds, nothing_left, stop_due, unasked}
+use Rattle.diagnose_cli.proofs.Dues.{answer_due, answer_left, known, no_kinds, nothing_left, stop_due, unasked}
 use Rattle.diagnose_cli.proofs.answering.answer_over.Goals as goal
 
 pub returns-in_err-files-clause-due : goal.returns-in_err-files-clause-due
@@ -15,12 +15,12 @@ returns-in_err-files-clause-due g c =
 pub returns-clause-due : goal.returns-clause-due
 returns-clause-due g c =
     let read = c.in_ok-files.ensures.read in
-    answer_due g.C.Answering.named c.args.words.now (g.C.Answering.listed c.args.words.now) (g.C.Answering.word c.args.command.now) c.requires.called g.C.Files.Reading.kinds g.met.C.Answering.has_files (g.F.Shelf.held c.args.shelf.now) c.answer-answer.new.book.entries read.texts read.bytes
-    (g.F.Shelf.faults c.args.shelf.now) (g.F.Shelf.faults c.fetch.new.shelf) c.answer-answer.result (c.answer-answer.ensures.closes read.texts read.are)
+    answer_due g.C.Answering.named c.args.words.now (g.C.Answering.listed c.args.words.now) (g.C.Answering.word c.args.command.now) c.requires.called g.C.Files.Reading.kinds g.met.C.Answering.has_files
+    (loads g.F.Shelf.held g.F.Shelf.faults c.args.shelf.now c.fetch.new.shelf) c.answer-answer.new.book.entries read.texts read.bytes c.answer-answer.result (c.answer-answer.ensures.closes read.texts read.are)
 
 pub returns-in_err-files-clause-left : goal.returns-in_err-files-clause-left
 returns-in_err-files-clause-left g c =
-    nothing_left g.C.Answering.named c.args.words.now (g.C.Answering.listed c.args.words.now) (g.C.Answering.word c.args.command.now) c.requires.called g.C.Files.Reading.kinds g.met.C.Answering.has_files (g.F.Shelf.held c.args.shelf.now) c.args.book.now.entries c.requires.empty
+    nothing_left (g.F.Shelf.held c.args.shelf.now) c.args.words.now _ c.args.book.now.entries (known g.C.Answering.named c.args.words.now (g.C.Answering.listed c.args.words.now) (g.C.Answering.word c.args.command.now) c.requires.called g.C.Files.Reading.kinds g.met.C.Answering.has_files) c.requires.empty
 
 pub returns-clause-left : goal.returns-clause-left
 returns-clause-left g c =

@@ -7,14 +7,14 @@ use Rattle.diagnose_cli.specs.Due.{Due, HasNotBegun, StopsEmpty}
 use Rattle.diagnose_cli.proofs.Once.{done, once_empty, stop_left}
 use Rattle.diagnose_cli.proofs.run.put_reply.Goals as goal
 
-pub returns : goal.returns
-returns g c =
-    let l = loads g.F.Shelf.held g.F.Shelf.faults c.args.shelf.now c.answer_as-ending.new.shelf in
+pub returns-in-Some : goal.returns-in-Some
+returns-in-Some g c =
+    let l = loads g.F.Shelf.held g.F.Shelf.faults c.args.shelf.now c.answer_over-ending.new.shelf in
     let words = c.args.words.now in
-    let book = c.answer_as-ending.new.book.entries in
-    let answered = c.answer_as-ending.ensures in
+    let book = c.answer_over-ending.new.book.entries in
+    let answered = c.answer_over-ending.ensures in
     let due = answered.due in
-    let r = c.answer_as-ending.result in
+    let r = c.answer_over-ending.result in
     let puts = c.put_once.ensures.puts in
     record {
       does = done l words (g.S.Sink.taken c.args.out.now) (g.S.Sink.taken c.put_once.new.out) book c.put_once.result _

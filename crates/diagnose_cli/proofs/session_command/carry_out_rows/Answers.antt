@@ -4,7 +4,7 @@ use Rattle.des_base.specs.Outside.{Rose}
 use Rattle.endings.specs.Puts.{Speaks}
 use Rattle.telling.proofs.Failing.{none_failed}
 use Rattle.diagnose_cli.specs.Sessions.{MaySay}
-use Rattle.diagnose_cli.proofs.SessionAnswers.{broke_before}
+use Rattle.diagnose_cli.proofs.Speeches.{broke_before}
 use Rattle.diagnose_cli.proofs.session_command.carry_out_rows.Goals as goal
 
 pub returns-in-Err-clause-speaks : goal.returns-in-Err-clause-speaks

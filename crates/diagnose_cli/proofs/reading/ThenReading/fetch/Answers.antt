@@ -2,8 +2,7 @@
 use Rattle.std.proofs.Common.{◌++◌, ◌∷◌, [], length-append, arith}
 use Rattle.endings.specs.Files.{loads}
 use Rattle.diagnose_cli.specs.FilesRead.{StopsAmong}
-use Rattle.diagnose_cli.proofs.FilesInOrder.{never_none, stops_before, then_read, then_stops}
-use Rattle.diagnose_cli.proofs.Orders.{stop_handed}
+use Rattle.diagnose_cli.proofs.FilesInOrder.{never_none, stop_handed, stops_before, then_read, then_stops}
 use Rattle.diagnose_cli.proofs.reading.ThenReading.fetch.Goals as goal
 
 pub fetch-requires : goal.fetch-requires

@@ -1,15 +1,25 @@
--- What the whole run of `verdicts` tells, and what its status does.
-use Rattle.std.proofs.Common.{◌≡◌, ◌≢◌, ◌∙◌, inl, inr, ℕ, Bool, true, false, List, [], ◌∷◌, refl, sym, ap, arith}
-use Rattle.std.specs.List.{list_any}
-use Rattle.des_base.specs.Outside.{Took}
+-- What the whole run of `session` or `verdicts` tells, and what its status does.
+use Rattle.std.proofs.Common.{refl, ◌≡◌, ◌≢◌, ℕ, List, [], ◌∷◌, subst, ◌∙◌, inl, inr, Bool, true, false, sym, ap, arith}
 use Rattle.des_net.specs.Network.{Net}
+use Rattle.log_csv.specs.ScriptText.{script_of}
+use Rattle.model_text.specs.ModelFaults.{network_of}
+use Rattle.endings.specs.declared.ending.Kind.{Kind}
+use Rattle.diagnose_cli.specs.SessionReplies.{EndsSession}
+use Rattle.endings.specs.Endings.{status_of_end, status_of_kind}
+use Rattle.diagnose_cli.specs.Outcomes.{Outcome, IsPut}
+use Rattle.diagnose_cli.specs.Rows.{SessionRow, CallsWith}
+use Rattle.diagnose_cli.specs.Run.{Ends}
+use Rattle.endings.specs.Transcripts.{End, said, cut, broken}
+use Rattle.diagnose_cli.specs.Commands.{session, verdicts}
+use Rattle.diagnose_cli.proofs.Called.{called_so}
+use Rattle.diagnose_cli.proofs.Answered.{SaidOver, said_in_all, said_over}
+use Rattle.std.specs.List.{list_any}
 use Rattle.answers.specs.declared.verdict.Verdict.{Verdict}
 use Rattle.inquiries.specs.Diagnosed.{IsDiagnosed}
 use Rattle.answers.specs.declared.found.Found.{Found}
 use Rattle.answers.specs.declared.found.Found.TheVariants.{Explained, Absent, Many, Undecided}
 use Rattle.log_csv.specs.LogText.{log_of}
 use Rattle.log_order.specs.Log.{Log}
-use Rattle.model_text.specs.ModelFaults.{network_of}
 use Rattle.proof_ledger.specs.Book.{BookEntry}
 use Rattle.replay.specs.Explanation.{IsAbsent, IsMany}
 use Rattle.verdict_telling.proofs.Deciding.{open_is_small}
@@ -17,23 +27,30 @@ use Rattle.verdict_telling.specs.Deciding.{leaves_open}
 use Rattle.verdict_telling.specs.Replied.{is_undecided}
 use Rattle.verdict_telling.specs.Whole.{told_of}
 use Rattle.verdict_telling.specs.declared.whole.Told.TheVariants.{Judged}
-use Rattle.endings.specs.Endings.{status_of_end, status_of_kind}
-use Rattle.endings.specs.Transcripts.{End, said, cut, broken}
-use Rattle.diagnose_cli.specs.Commands.{verdicts}
-use Rattle.diagnose_cli.specs.Outcomes.{IsPut, Outcome}
-use Rattle.diagnose_cli.specs.Rows.{CallsWith}
-use Rattle.diagnose_cli.specs.Run.{Ends}
 use Rattle.diagnose_cli.specs.VerdictReplies.{EndsVerdicts, kind_of_told}
 use Rattle.diagnose_cli.specs.VerdictRows.{IsAnswerStatus, TellsInAll, VerdictRows}
-use Rattle.diagnose_cli.proofs.Answered.{said_in_all, said_over}
-use Rattle.diagnose_cli.proofs.Called.{called_so}
 use Rattle.diagnose_cli.proofs.StopStatus.{IsStopStatus, not_low}
 
--- by its status all was told
-ended : (o : Outcome) (net : Net) (alarms : Log) (n budget : ℕ) (texts : List (List ℕ)) (end : End) → IsPut o.status → EndsVerdicts net alarms n budget o.book texts end → o.status ≡ status_of_end end → Took o.before o.now texts → TellsInAll o net alarms n budget
-ended o net alarms n budget texts (said kind) is_put says shown put = record { found = says.found; verdicts = says.verdicts; texts = texts; have = says.have; shown = shown ∙ ap status_of_kind says.kind_is; put = put }
-ended o net alarms n budget texts cut is_put says shown put = absurd (is_put.written shown)
-ended o net alarms n budget texts broken is_put says shown put = absurd (is_put.memory shown)
+-- by its status it said all
+finished : (end : End) (status : ℕ) → IsPut status → status ≡ status_of_end end → (kind : Kind) × (end ≡ said kind)
+finished (said kind) status put shown = (kind, refl)
+finished cut status put shown = absurd (put.written shown)
+finished broken status put shown = absurd (put.memory shown)
+
+pub session_row : (o : Outcome) → (o.status ≢ 4 → Ends o) → SessionRow o
+session_row o ends limits text lines reads unbroken =
+    let over = said_in_all o (session.task limits) ends (called_so session o.words refl limits reads.called) (text ∷ lines ∷ []) reads.files reads.small unbroken in
+    let end = finished over.told.end o.status unbroken.put over.shown in
+    let says = subst (EndsSession (network_of text) limits.steps limits.budget (script_of lines) o.book over.told.texts) end.1 over.says.says in
+    record { left = says.1.left; texts = over.told.texts; replied = says.1.replied; book = says.1.book_is; shown = over.shown ∙ ap status_of_end (end.1 ∙ ap (λ (k : Kind). said k) says.0); put = over.put }
+
+-- ---- what `verdicts` tells by its status
+
+tells_in_all : (o : Outcome) (steps budget : ℕ) (text alarms : List ℕ) → IsPut o.status → SaidOver o (verdicts.task (record { steps = steps; budget = budget })) (text ∷ alarms ∷ []) → TellsInAll o (network_of text) (log_of alarms) steps budget
+tells_in_all o steps budget text alarms put over =
+    let end = finished over.told.end o.status put over.shown in
+    let says = subst (EndsVerdicts (network_of text) (log_of alarms) steps budget o.book over.told.texts) end.1 over.says.says in
+    record { found = says.found; verdicts = says.verdicts; texts = over.told.texts; have = says.have; shown = over.shown ∙ ap status_of_end end.1 ∙ ap status_of_kind says.kind_is; put = over.put }
 
 no_stop : (status : ℕ) → IsAnswerStatus status → IsStopStatus status → ⊥
 no_stop status (inl none) stop = omega (arith, none, stop.low)
@@ -67,14 +84,12 @@ module _ (o : Outcome) (ends : o.status ≢ 4 → Ends o) where
   told steps budget text alarms asks answer =
       let answers = no_stop o.status answer in
       let over = said_over o (verdicts.task (record { steps = steps; budget = budget })) ends (called_so verdicts o.words refl (record { steps = steps; budget = budget }) asks.called) (text ∷ alarms ∷ []) asks.told refl answers in
-      let is_put : IsPut o.status = record { written = not_low o.status 4 (omega arith) (omega arith) answers; memory = not_low o.status 9 (omega arith) (omega arith) answers } in
-      ended o (network_of text) (log_of alarms) steps budget over.told.texts over.told.end is_put over.says.says over.shown over.put
+      tells_in_all o steps budget text alarms (record { written = not_low o.status 4 (omega arith) (omega arith) answers; memory = not_low o.status 9 (omega arith) (omega arith) answers }) over
 
   pub verdict_rows : VerdictRows o
   verdict_rows = record {
     judged = λ steps budget text alarms reads whole.
-        let over = said_in_all o (verdicts.task (record { steps = steps; budget = budget })) ends (called_so verdicts o.words refl (record { steps = steps; budget = budget }) reads.called) (text ∷ alarms ∷ []) reads.files reads.small whole in
-        ended o (network_of text) (log_of alarms) steps budget over.told.texts over.told.end whole.put over.says.says over.shown over.put;
+        tells_in_all o steps budget text alarms whole.put (said_in_all o (verdicts.task (record { steps = steps; budget = budget })) ends (called_so verdicts o.words refl (record { steps = steps; budget = budget }) reads.called) (text ∷ alarms ∷ []) reads.files reads.small whole);
     told = told;
     absent = λ steps budget text alarms asks is.
         let tells = told steps budget text alarms asks (inr (omega (arith, is), omega (arith, is))) in
