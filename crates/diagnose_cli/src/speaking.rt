@@ -46,7 +46,7 @@ pub trait Speaking {
     /// It stands in the list.
     ghost listed: { (words : List (List ℕ)) → IsInList (told_often name kinds speech) words };
 
-    /// The size of its question.
+    /// How large its question is, over its files.
     ghost sized: { Self.Files → Limits → ℕ };
 
     /// The kind of what it tells in all.

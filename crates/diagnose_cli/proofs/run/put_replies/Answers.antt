@@ -18,9 +18,6 @@ returns-in-Some g c =
       failures = told.ensures.failures;
     }
 
-pub speak-requires-clause-called : goal.speak-requires-clause-called
-speak-requires-clause-called g c = record { name = c.requires.name; read = sym c.read_limits.ensures.spelled ∙ c.in-Some.is }
-
 pub put_usage-requires-clause-none : goal.put_usage-requires-clause-none
 put_usage-requires-clause-none g c =
     let command = told_often g.C.Speaking.name g.C.Speaking.kinds g.C.Speaking.speech in

@@ -1,5 +1,5 @@
 -- By the size of its question, and then as it tells.
-use Rattle.std.proofs.Common.{inl, subst, sym, arith}
+use Rattle.std.proofs.Common.{subst, sym, arith}
 use Rattle.diagnose_cli.proofs.Speeches.{fails_by, large_speaks, sized_speaks, tells_no_stop}
 use Rattle.diagnose_cli.proofs.speaking.speak_over.Goals as goal
 
@@ -11,9 +11,6 @@ returns-then-size-gt-MOST_SIZE-clause-speaks g c words texts read =
 pub returns-clause-speaks : goal.returns-clause-speaks
 returns-clause-speaks g c words texts read =
     sized_speaks g.C.Speaking.kinds (g.C.Speaking.speech c.args.limits) words c.tell.new.book.entries texts c.size-size.result (c.size-size.ensures.asked texts read) (omega (arith, c.if-size-gt-MOST_SIZE.false)) _ _ _ c.status_of.result _ c.status_of.ensures (c.tell.ensures.speaks texts read)
-
-pub returns-then-size-gt-MOST_SIZE-clause-left : goal.returns-then-size-gt-MOST_SIZE-clause-left
-returns-then-size-gt-MOST_SIZE-clause-left g c words texts read same = inl c.requires.empty
 
 pub returns-clause-stopped : goal.returns-clause-stopped
 returns-clause-stopped g c stop = absurd (tells_no_stop g.C.Speaking.kind c.tell.result c.status_of.result c.status_of.ensures stop)

@@ -1,11 +1,9 @@
 -- By what is told.
-use Rattle.std.proofs.Common.{inr, IsOkAnd}
+use Rattle.std.proofs.Common.{IsOkAnd}
 use Rattle.std.specs.Prelude.{⊤}
 use Rattle.des_base.specs.Outside.{Rose}
-use Rattle.verdict_telling.specs.Left.{LeavesVerdicts}
 use Rattle.endings.specs.Puts.{Speaks}
-use Rattle.diagnose_cli.specs.Commands.{verdicts, verdicts_speech}
-use Rattle.diagnose_cli.specs.Rows.{Leaves}
+use Rattle.diagnose_cli.specs.Commands.{verdicts_speech}
 use Rattle.diagnose_cli.specs.VerdictReplies.{MayTell, status_of_told}
 use Rattle.diagnose_cli.proofs.ReadOver.{over_case}
 use Rattle.diagnose_cli.proofs.VerdictAnswers.{told_speaks}
@@ -21,9 +19,3 @@ returns-clause-speaks g c texts read =
     let rose = Rose (g.S.Sink.faults c.args.out.now) (g.S.Sink.faults told.new.out) in
     over_case (λ ts. Speaks (λ e. IsOkAnd e ((verdicts_speech limits).says book ts)) ⊤ before now rose (status_of_told told.result)) texts (λ net log. Speaks (MayTell net log limits.steps limits.budget book) ⊤ before now rose (status_of_told told.result))
     (λ text alarms speaks. speaks) c.args.files.net c.args.files.log read (told_speaks c.args.files.net c.args.files.log limits.steps limits.budget book before now rose told.result told.ensures.tells)
-
-pub returns-clause-left : goal.returns-clause-left
-returns-clause-left g c words texts read =
-    let limits = c.args.limits in
-    let book = c.tell_case-told.new.book.entries in
-    over_case (λ ts. Leaves (verdicts.task limits) words ts book) texts (λ net log. LeavesVerdicts net log limits.steps limits.budget book) (λ text alarms h same. inr h) c.args.files.net c.args.files.log read c.tell_case-told.ensures.left
