@@ -3,7 +3,7 @@ ghost use Rattle.std.specs.Prelude.{◌≡◌, ◌≤◌, [], IfSome};
 ghost use Rattle.des_base.specs.CommandWords.{word_at};
 ghost use Rattle.des_base.specs.Outside.{Rose};
 ghost use Rattle.diagnose_cli.specs.Commands.{session};
-ghost use Rattle.diagnose_cli.specs.Tasks.{read_words};
+ghost use Rattle.diagnose_cli.specs.Tasks.{AreWords, one, read_words};
 ghost use Rattle.diagnose_cli.specs.Words.{most_steps};
 ghost use Rattle.endings.specs.Files.{loads};
 ghost use Rattle.diagnose_cli.specs.Outcomes.{outcome};
@@ -128,12 +128,27 @@ fn put_reply<C: Answering + Drop, F: Shelf, S: Sink>(
     ensures { Responds (outcome (loads F.held F.faults shelf.old shelf.new) words.now (S.taken out.old) (S.taken out.new) book.new.entries result) (Rose (S.faults out.old) (S.faults out.new)) shelf.old shelf.new book.old book.new (S.failures out.old) (S.failures out.new) }
 {
     match read_command::<C>(words) {
-        Some(command) => {
-            let ending = answer_over(alloc, words, shelf, &command, book);
-            put_once(alloc, ending, out)
-        }
+        Some(command) => put_answer(alloc, words, shelf, &command, out, book),
         None => put_usage(alloc, words, shelf, out, book),
     }
+}
+
+// Puts the reply of a command that the words call.
+fn put_answer<C: Answering, F: Shelf, S: Sink>(
+    alloc: Global,
+    words: &WordList,
+    shelf: &mut F,
+    command: &C,
+    out: &mut S,
+    book: &mut Ledger,
+) -> u8
+    requires called { AreWords (one C.named) (C.word command.now) words.now }
+    requires fits { C.fits command.now }
+    requires empty { book.old.entries ≡ [] }
+    ensures { Responds (outcome (loads F.held F.faults shelf.old shelf.new) words.now (S.taken out.old) (S.taken out.new) book.new.entries result) (Rose (S.faults out.old) (S.faults out.new)) shelf.old shelf.new book.old book.new (S.failures out.old) (S.failures out.new) }
+{
+    let ending = answer_over(alloc, words, shelf, command, book);
+    put_once(alloc, ending, out)
 }
 
 // Puts what a command says that has several replies.

@@ -5,10 +5,10 @@ use Rattle.endings.specs.Files.{loads}
 use Rattle.endings.proofs.Once.{speaks_once}
 use Rattle.diagnose_cli.specs.Due.{Due, HasNotBegun, StopsEmpty}
 use Rattle.diagnose_cli.proofs.Once.{done, once_empty, stop_left}
-use Rattle.diagnose_cli.proofs.run.put_reply.Goals as goal
+use Rattle.diagnose_cli.proofs.run.put_answer.Goals as goal
 
-pub returns-in-Some : goal.returns-in-Some
-returns-in-Some g c =
+pub returns : goal.returns
+returns g c =
     let l = loads g.F.Shelf.held g.F.Shelf.faults c.args.shelf.now c.answer_over-ending.new.shelf in
     let words = c.args.words.now in
     let book = c.answer_over-ending.new.book.entries in
