@@ -20,11 +20,13 @@ fetch-requires g c =
 pub returns-in-Ok-clause-speaks : goal.returns-in-Ok-clause-speaks
 returns-in-Ok-clause-speaks g c =
     let read = c.in-Ok.ensures.read in
-    files_speak (loads g.F.Shelf.held g.F.Shelf.faults c.args.shelf.now c.fetch.new.shelf) c.args.words.now (speaking g.C.Speaking.kinds (g.C.Speaking.speech c.args.limits)) c.speak_over.new.book.entries (called_so _ c.args.words.now (g.C.Speaking.listed c.args.words.now) c.args.limits c.requires.called) g.C.Files.Reading.kinds g.met.C.Speaking.has_files read.texts read.bytes _ _ _ _ (c.speak_over.ensures.speaks c.args.words.now read.texts read.are)
+    files_speak (loads g.F.Shelf.held g.F.Shelf.faults c.args.shelf.now c.fetch.new.shelf) c.args.words.now (speaking g.C.Speaking.kinds (g.C.Speaking.speech c.args.limits)) c.speak_over.new.book.entries
+    (called_so _ c.args.words.now (g.C.Speaking.listed c.args.words.now) c.args.limits c.requires.called) g.C.Files.Reading.kinds g.met.C.Speaking.has_files read.texts read.bytes _ _ _ _ (c.speak_over.ensures.speaks c.args.words.now read.texts read.are)
 
 pub returns-in-Err-clause-speaks : goal.returns-in-Err-clause-speaks
 returns-in-Err-clause-speaks g c =
-    files_stop (loads g.F.Shelf.held g.F.Shelf.faults c.args.shelf.now c.fetch.new.shelf) c.args.words.now (speaking g.C.Speaking.kinds (g.C.Speaking.speech c.args.limits)) c.args.book.now.entries (called_so _ c.args.words.now (g.C.Speaking.listed c.args.words.now) c.args.limits c.requires.called) g.C.Files.Reading.kinds g.met.C.Speaking.has_files c.in-Err.stop
+    files_stop (loads g.F.Shelf.held g.F.Shelf.faults c.args.shelf.now c.fetch.new.shelf) c.args.words.now (speaking g.C.Speaking.kinds (g.C.Speaking.speech c.args.limits)) c.args.book.now.entries
+    (called_so _ c.args.words.now (g.C.Speaking.listed c.args.words.now) c.args.limits c.requires.called) g.C.Files.Reading.kinds g.met.C.Speaking.has_files c.in-Err.stop
     (subst (g.C.Speaking.speech c.args.limits).lost (sym c.requires.empty) (g.met.C.Speaking.begun c.args.limits)) c.requires.empty c.in-Err.ensures.stop _ _ _ _ c.put_once.ensures.puts
 
 pub returns-in-Ok-clause-no_load : goal.returns-in-Ok-clause-no_load
@@ -39,7 +41,11 @@ returns-in-Ok-clause-no_question g c none = let never : true ≡ false = of_call
 pub returns-in-Ok-clause-left : goal.returns-in-Ok-clause-left
 returns-in-Ok-clause-left g c =
     let read = c.in-Ok.ensures.read in
-    left_over (g.F.Shelf.held c.args.shelf.now) c.args.words.now (speaking g.C.Speaking.kinds (g.C.Speaking.speech c.args.limits)) c.speak_over.new.book.entries (called_so _ c.args.words.now (g.C.Speaking.listed c.args.words.now) c.args.limits c.requires.called) read.texts (subst (λ (ks : List FileKind). AreBytes (g.F.Shelf.held c.args.shelf.now) c.args.words.now 1 ks [] read.texts) (sym g.met.C.Speaking.has_files) read.bytes) (c.speak_over.ensures.left c.args.words.now read.texts read.are)
+    left_over (g.F.Shelf.held c.args.shelf.now) c.args.words.now (speaking g.C.Speaking.kinds (g.C.Speaking.speech c.args.limits)) c.speak_over.new.book.entries
+    (called_so _ c.args.words.now (g.C.Speaking.listed c.args.words.now) c.args.limits c.requires.called) read.texts
+    (subst (λ (ks : List FileKind). AreBytes (g.F.Shelf.held c.args.shelf.now) c.args.words.now 1 ks [] read.texts) (sym g.met.C.Speaking.has_files) read.bytes) (c.speak_over.ensures.left c.args.words.now read.texts read.are)
 
 pub returns-in-Err-clause-left : goal.returns-in-Err-clause-left
-returns-in-Err-clause-left g c = nothing_left (g.F.Shelf.held c.args.shelf.now) c.args.words.now (speaking g.C.Speaking.kinds (g.C.Speaking.speech c.args.limits)) c.args.book.now.entries (called_so _ c.args.words.now (g.C.Speaking.listed c.args.words.now) c.args.limits c.requires.called) c.requires.empty
+returns-in-Err-clause-left g c =
+    nothing_left (g.F.Shelf.held c.args.shelf.now) c.args.words.now (speaking g.C.Speaking.kinds (g.C.Speaking.speech c.args.limits)) c.args.book.now.entries
+    (called_so _ c.args.words.now (g.C.Speaking.listed c.args.words.now) c.args.limits c.requires.called) c.requires.empty
