@@ -6,7 +6,6 @@ use sat_solve::Solver;
 use step_encode::StepCode;
 
 /// The parts of a question whose clauses stand in a book.
-#[derive(Drop)]
 pub struct Parts<R> {
     /// The code of the steps.
     pub step: StepCode,
@@ -18,6 +17,19 @@ pub struct Parts<R> {
     pub vars: Vars,
     /// The solver, which has adopted the book.
     pub solver: Solver<R>,
+}
+
+// (Written out, so that it is proved once: a derived one is proved again in each crate that lets such a value go.)
+impl<R: Drop> Drop for Parts<R> {
+    fn drop(self) {
+        let Self {
+            step: _,
+            code: _,
+            counter: _,
+            vars: _,
+            solver: _,
+        } = self;
+    }
 }
 
 /// Memory ran out, and nothing was built. The book may hold the first of the axioms.

@@ -31,7 +31,6 @@ use std::snapshot::Snapshot;
 ///
 /// It grows by drafts. Each is made by the code as it stands, then room is reserved for it, and then it is committed. Its
 /// clauses go to whoever keeps them, and its variables are made by whoever counts them.
-#[derive(Drop)]
 pub struct LogCode {
     alloc: Global,
     net: Snapshot<Network>,
@@ -57,6 +56,26 @@ impl Model for LogCode {
     ghost view = { code_view };
 
     ghost invariant = { KeepsLogCode };
+}
+
+// (Written out, so that it is proved once: a derived one is proved again in each crate that lets such a value go.)
+impl Drop for LogCode {
+    fn drop(self) {
+        let Self {
+            alloc: _,
+            net: _,
+            grid: _,
+            asked: _,
+            ends: _,
+            guards: _,
+            dropped: _,
+            alarms: _,
+            pairs: _,
+            vars: _,
+            spare_alarms: _,
+            spare_pairs: _,
+        } = self;
+    }
 }
 
 impl LogCode {

@@ -25,7 +25,6 @@ use std::marker::Model;
 /// A solver for the clauses of a book.
 ///
 /// `reserve` alone asks the closure that ranks, and needs of it what `Order` does. Each call keeps the closure.
-#[derive(Drop)]
 pub struct Solver<R> {
     search: Search<R>,
     assignment: Assignment,
@@ -45,6 +44,17 @@ impl<R> Model for Solver<R> {
       rest : IsAtRest a.search a.assignment;
       adopted : a.clauses ≡ length a.search.propagator.clauses;
     } };
+}
+
+// (Written out, so that it is proved once: a derived one is proved again in each crate that lets such a value go.)
+impl<R: Drop> Drop for Solver<R> {
+    fn drop(self) {
+        let Self {
+            search: _,
+            assignment: _,
+            clauses: _,
+        } = self;
+    }
 }
 
 impl<R: Fn(u32) -> u64> Solver<R> {
