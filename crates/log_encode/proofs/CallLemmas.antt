@@ -3,7 +3,7 @@ use Rattle.std.proofs.Common.{◌≡◌, ◌⊎◌, inl, inr, ℕ, zero, suc, �
 use Rattle.std.specs.List.{AllByRecursion, range_with_len}
 use Rattle.std.proofs.lemmas.List.Elements.{All-from_recursion}
 use Rattle.des_base.proofs.BoolLemmas.{otherwise, clash}
-use Rattle.des_base.proofs.Elements.{cons_cases, none_in_nil, contains_at, at_place, all_from, filter_has, filter_from}
+use Rattle.des_base.proofs.Elements.{cons_cases, none_in_nil, contains_at, at_place, all_from, filter_has, filter_from, some_at}
 use Rattle.des_base.specs.Lists.{numbers_below}
 use Rattle.des_base.specs.declared.TheConstants.{VAR_LIMIT}
 use Rattle.des_net.specs.Network.{Net, observable_events}
@@ -23,10 +23,10 @@ use Rattle.log_encode.proofs.GrowLemmas.{taken_width, new_vars, new_alarm, ends_
 use Rattle.log_encode.proofs.TakenLemmas.{map_count}
 use Rattle.log_encode.proofs.VariableLemmas.{link_is_small}
 use Rattle.log_encode.specs.AlarmState.{AlarmState, variables_of, is_matched}
-use Rattle.log_encode.specs.AlarmVariables.{AreWithinLimit, alarm_variable_count, false_width, match_variable, done_variable, dropped_variable}
+use Rattle.log_encode.specs.AlarmVariables.{AreWithinLimit, alarm_variable_count, false_width, match_variable, passed_variable, done_variable, dropped_variable}
 use Rattle.log_encode.specs.CodedLog.{CodedLog, log_meanings, read_meanings, empty_code, code_after, addition_width, nameless, false_literals, IsCodedLog}
 use Rattle.log_encode.specs.declared.log_code.LogCode.TheInside.{Inside}
-use Rattle.log_encode.specs.Drafted.{LogCodeState, IsStepOfAlarm}
+use Rattle.log_encode.specs.Drafted.{LogCodeState, IsStepOfAlarm, IsUnpassed}
 use Rattle.log_encode.specs.declared.taken.ChainEnd.{ChainEnd}
 use Rattle.log_encode.specs.declared.taken.Taken.{Taken}
 use Rattle.log_encode.specs.View.{IsChainEnd, IsRest, AreEnds, AreFalse, IsCodedAlarm, AreKept, KeepsLogCode, coded_of, coded, code_view}
@@ -38,9 +38,10 @@ use Rattle.prop_core.specs.NamedClauses.{value_by}
 use Rattle.prop_core.proofs.NameLemmas.{values_match}
 use Rattle.replay.specs.QuestionSize.{question_size}
 use Rattle.std.specs.Option.{option_map_or}
-use Rattle.std.proofs.lemmas.Bool.{eqb-true, eq-eqb}
+use Rattle.std.proofs.lemmas.Bool.{eqb-true, eq-eqb, le-ltb, lt-ltb}
 use Rattle.log_encode.specs.declared.alarm_vars.AlarmVars.{AlarmVars}
-use Rattle.prop_core.specs.VariableNames.{Meaning, NamedLiteral, meaning_of, named_clause, yes, closed, matches, done, dropped}
+use Rattle.prop_core.specs.VariableNames.{Meaning, NamedLiteral, meaning_of, named_clause, yes, closed, matches, unmatched, done, dropped}
+use Rattle.std.specs.Prelude.{nat_lt}
 use Rattle.prop_core.specs.Listings.{IsListed}
 use Rattle.question_clauses.specs.Drafts.{added_list}
 use Rattle.log_encode.specs.WrittenLog.{AppendsFirst}
@@ -139,6 +140,34 @@ pub linked_known : (net : Net) (log : Log) (i link : ℕ) (found : Option ℕ) �
 linked_known net log i link None is = tt
 linked_known net log i link (Some e) is =
     from_numbers (length net.events) e (filter_from (λ x. is_matching net log x i) (numbers_below (length net.events)) e (contains_at (matching_events net log i) link e (sym is))).1
+
+-- as many as there are of them
+pub links_counted : (code : CodedLog) (i : ℕ) (alarm : AlarmState) → IsCodedAlarm code i alarm → length alarm.takes ≡ length (matching_events code.net code.log i)
+links_counted code i alarm is = sym (map_count (λ (taken : Taken). taken.event) alarm.takes) ∙ ap length is.events
+
+-- a number above all links, or above all steps
+pub no_link : (link links : ℕ) (b : Bool) → links ≤ link → false ≡ (nat_lt link links && b)
+no_link link links b h = rw (le-ltb link links h) refl
+
+pub no_step : (step steps : ℕ) (b : Bool) → steps ≤ step → false ≡ (b && nat_lt step steps)
+no_step step steps true h = sym (le-ltb step steps h)
+no_step step steps false h = refl
+
+pub both_there : (link links step steps : ℕ) → link < links → step < steps → true ≡ (nat_lt link links && nat_lt step steps)
+both_there link links step steps h k = rw (lt-ltb link links h, lt-ltb step steps k) refl
+
+-- what says of the event of a link that it is passed on, and its negation
+pub unpassed_is : (code : CodedLog) (i : ℕ) (alarm : AlarmState) (link step var : ℕ) → IsCodedAlarm code i alarm → link < length alarm.takes → step < code.grid.steps → var ≡ passed_variable (variables_of code.grid.steps alarm) link step → IsUnpassed code i link step (record { var = var; positive = false })
+unpassed_is code i alarm link step var is known time same =
+    let there = some_at (matching_events code.net code.log i) link (omega (arith, known, links_counted code i alarm is)) in
+    let named = is.passing link there.0 step there.1 time in record {
+      event = there.0;
+      linked = there.1;
+      before = named.0;
+      stands = named.1;
+      name = subst (λ v. meaning_of (log_meanings code) v ≡ Some (unmatched there.0 (suc named.0) (suc step))) (sym same) named.2;
+      sign = refl;
+    }
 
 -- ---- a draft of an alarm
 

@@ -2,7 +2,7 @@
 use Rattle.std.proofs.Common.{◌≡◌, ◌≢◌, ℕ, suc, ◌+◌, ◌*◌, ◌<◌, ◌≤◌, ◌∙◌, Bool, true, false, List, [], ◌∷◌, ◌++◌, length, map, filter, Some, refl, sym, ap, subst, arith, slice_get, length-append, ◌==◌, if◌then◌else◌, append_assoc}
 use Rattle.std.specs.List.{AllByRecursion}
 use Rattle.std.proofs.lemmas.Bool.{eq-eqb, false_from_ne_true, eqb-true}
-use Rattle.des_base.proofs.Elements.{zip_append, pairs_filter}
+use Rattle.des_base.proofs.Elements.{contains_at, filter_from, zip_append, pairs_filter}
 use Rattle.des_base.proofs.NumbersBelow.{range_once}
 use Rattle.des_base.specs.ChainCount.{chain_count}
 use Rattle.des_base.specs.Lists.{EachPair, numbers_below}
@@ -10,15 +10,15 @@ use Rattle.des_net.specs.Network.{Net, label_of, observable_events}
 use Rattle.log_order.specs.Log.{Log, Alarm}
 use Rattle.question_clauses.specs.Additions.{alarm_added, with_addition}
 use Rattle.question_clauses.specs.Drafts.{taken_events}
-use Rattle.question_clauses.specs.LogClauses.{chain}
+use Rattle.question_clauses.specs.LogClauses.{IsLink, chain}
 use Rattle.question_clauses.specs.LogNames.{HasAlarmPlaces, ReadsInOrder}
 use Rattle.question_clauses.proofs.Numbered.{places_of_meanings}
 use Rattle.question_clauses.proofs.Stay.{doubtful_new}
 use Rattle.log_encode.proofs.CodeLemmas.{names_with_alarm, raised, false_more}
 use Rattle.log_encode.proofs.StayLemmas.{end_stays, chain_joined, named_still}
-use Rattle.log_encode.proofs.TakenLemmas.{taken_are_events, taken_is_filter, width_is, map_count}
+use Rattle.log_encode.proofs.TakenLemmas.{suits_new, taken_are_events, taken_is_filter, width_is, map_count}
 use Rattle.log_encode.proofs.VariableLemmas.{link_is_small}
-use Rattle.replay.specs.Explanation.{has_any_label}
+use Rattle.replay.specs.Explanation.{has_any_label, is_matching}
 use Rattle.log_encode.specs.AlarmVariables.{alarm_variable_count, false_width, dropped_variable}
 use Rattle.log_encode.specs.CodedLog.{CodedLog, log_meanings, code_after, addition_width, nameless, false_literals, IsCodedLog}
 use Rattle.log_encode.specs.declared.alarm_vars.AlarmVars.{AlarmVars}
@@ -159,6 +159,15 @@ ends_with_alarm code labels maybe first ends guards coded above are =
       guarding = refl;
     }
 
+-- the new alarm stands at the end of the chain of an event that it may stand for
+new_link : (code : CodedLog) (labels : List (List ℕ)) (maybe : Bool) (p e : ℕ) → slice_get (taken_events code.net code.log (nameless labels maybe)) p ≡ Some e →
+    IsLink code.net (with_addition code.log (alarm_added (nameless labels maybe))) (length code.log.alarms) e (length (chain code.net code.log e))
+new_link code labels maybe p e at =
+    let longer = with_addition code.log (alarm_added (nameless labels maybe)) in
+    let suits = (filter_from (λ x. is_matching code.net longer x (length code.log.alarms)) (numbers_below (length code.net.events)) e (contains_at (taken_events code.net code.log (nameless labels maybe)) p e at)).0 in
+    let passes : has_any_label code.net labels e ≡ true = sym (suits_new code.net code.log (nameless labels maybe) e) ∙ suits in
+    subst (λ xs. slice_get xs (length (chain code.net code.log e)) ≡ Some (length code.log.alarms)) (sym (chain_joined code.net code.log (nameless labels maybe) e passes)) (get_at (chain code.net code.log e) [] (length code.log.alarms))
+
 pub new_alarm : (code : CodedLog) (labels : List (List ℕ)) (maybe : Bool) (first : ℕ) (ends : List ChainEnd) → IsCodedLog code → code.vars ≤ first → map (λ (end : ChainEnd). end.event) ends ≡ observable_events code.net →
     IsCodedAlarm (code_after code (alarm_added (nameless labels maybe)) first) (length code.log.alarms) (record { labels = labels; doubtful = maybe; takes = taken_from code.net labels ends; start = first })
 new_alarm code labels maybe first ends coded above are =
@@ -167,6 +176,7 @@ new_alarm code labels maybe first ends coded above are =
       events = taken_are_events code.net code.log labels maybe ends are;
       within = omega (arith, width);
       matching = λ p e t at time. there.matching p e t at time;
+      passing = λ p e t at time. (length (chain code.net code.log e), new_link code labels maybe p e at, there.passing p e t at time);
       being_done = λ t time. subst (λ k. meaning_of (log_meanings (code_after code (alarm_added (nameless labels maybe)) first)) (first + (k * (1 + code.grid.steps * 2) + t)) ≡ Some (done (length code.log.alarms) t)) (taken_count code labels maybe ends are) (there.being_done t time);
       mark = doubtful_new code.log (nameless labels maybe);
       being_false = λ h. subst (λ k. meaning_of (log_meanings (code_after code (alarm_added (nameless labels maybe)) first)) (first + (k * (1 + code.grid.steps * 2) + (suc code.grid.steps + code.grid.steps * chain_count k))) ≡ Some (dropped (length code.log.alarms))) (taken_count code labels maybe ends are) (there.being_false h);

@@ -6,8 +6,9 @@ use Rattle.des_base.specs.Lists.{numbers_below}
 use Rattle.des_net.specs.Network.{Net}
 use Rattle.log_order.specs.Log.{Log, Alarm, a_log}
 use Rattle.question_clauses.specs.Additions.{alarm_added, pair_added, with_addition}
-use Rattle.question_clauses.specs.LogClauses.{chain, matching_events}
+use Rattle.question_clauses.specs.LogClauses.{IsLink, chain, matching_events}
 use Rattle.question_clauses.specs.LogNames.{added_meanings}
+use Rattle.question_clauses.proofs.Lists.{get_more}
 use Rattle.question_clauses.proofs.Stay.{matching_same, chain_is, doubtful_same}
 use Rattle.log_encode.proofs.CodeLemmas.{names_with_alarm}
 use Rattle.log_encode.proofs.TakenLemmas.{suits_new}
@@ -32,12 +33,20 @@ pub matching_still : (net : Net) (log : Log) (new : Alarm) (i : ℕ) → i < len
 matching_still net log new i h =
     filter_alike (λ e. is_matching net (with_addition log (alarm_added new)) e i) (λ e. is_matching net log e i) (numbers_below (length net.events)) (λ e. matching_same net log new e i h)
 
+-- an alarm stays where it stands in a chain
+link_still : (net : Net) (log : Log) (new : Alarm) (i e k : ℕ) → IsLink net log i e k → IsLink net (with_addition log (alarm_added new)) i e k
+link_still net log new i e k is =
+    subst (λ xs. slice_get xs k ≡ Some i) (sym (chain_is net log new e)) (get_more (chain net log e) (filter (is_matching net (with_addition log (alarm_added new)) e) (length log.alarms ∷ [])) k i is)
+
 pub alarm_stays : (code : CodedLog) (new : Alarm) (first i : ℕ) (alarm : AlarmState) → IsCodedLog code → code.vars ≤ first → i < length code.log.alarms → IsCodedAlarm code i alarm → IsCodedAlarm (code_after code (alarm_added new) first) i alarm
 alarm_stays code new first i alarm coded above known is =
     let same = matching_still code.net code.log new i known in record {
       events = is.events ∙ sym same;
       within = omega (arith, is.within);
       matching = λ p e t at time. named_still code new first _ _ coded.each (is.matching p e t (subst (λ xs. slice_get xs p ≡ Some e) same at) time);
+      passing = λ p e t at time.
+          let was = is.passing p e t (subst (λ xs. slice_get xs p ≡ Some e) same at) time in
+          (was.0, link_still code.net code.log new i e was.0 was.1, named_still code new first _ _ coded.each was.2);
       being_done = λ t time. named_still code new first _ _ coded.each (is.being_done t time);
       mark = doubtful_same code.log new i known ∙ is.mark;
       being_false = λ h. named_still code new first _ _ coded.each (is.being_false h);
@@ -89,7 +98,7 @@ kept_by_pair code i j first ends guards dropped alarms coded above kept = record
   log = coded;
   chains = record { events = kept.chains.events; each = ends_by_pair code i j first ends above kept.chains.each; guarding = kept.chains.guarding };
   false_ones = kept.false_ones;
-  alarms = λ k alarm at. let is = kept.alarms k alarm at in record { events = is.events; within = omega (arith, is.within); matching = is.matching; being_done = is.being_done; mark = is.mark; being_false = is.being_false };
+  alarms = λ k alarm at. let is = kept.alarms k alarm at in record { events = is.events; within = omega (arith, is.within); matching = is.matching; passing = is.passing; being_done = is.being_done; mark = is.mark; being_false = is.being_false };
 }
 
 -- ---- a new alarm among the others

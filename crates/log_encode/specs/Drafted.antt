@@ -1,11 +1,13 @@
 -- A draft of an addition to the log, and what stands ready for it.
-use Rattle.std.specs.Prelude.{◌≡◌, ℕ, Bool, true, false, ◌+◌, ◌*◌, ◌<◌, ◌≤◌, List, length}
+use Rattle.std.specs.Prelude.{◌≡◌, ℕ, suc, Bool, true, false, ◌+◌, ◌*◌, ◌<◌, ◌≤◌, List, Some, length, slice_get}
 use Rattle.question_clauses.specs.Additions.{Addition, alarm_added, pair_added, with_addition}
 use Rattle.question_clauses.specs.Drafts.{added_list}
-use Rattle.log_encode.specs.CodedLog.{CodedLog, code_after, addition_width, read_meanings}
+use Rattle.question_clauses.specs.LogClauses.{IsLink, matching_events}
+use Rattle.log_encode.specs.CodedLog.{CodedLog, code_after, addition_width, log_meanings, read_meanings}
 use Rattle.prop_core.specs.Clauses.{Clause}
 use Rattle.prop_core.specs.Listings.{IsListed}
-use Rattle.prop_core.specs.VariableNames.{Meaning, done}
+use Rattle.prop_core.specs.VariableNames.{Meaning, done, meaning_of, unmatched}
+use Rattle.prop_core.specs.declared.lit.Lit.{Lit}
 use Rattle.replay.specs.QuestionSize.{question_size}
 
 -- a code, and for how many more alarms and pairs there is room in it
@@ -41,3 +43,12 @@ pub record IsStepOfAlarm (n : ℕ) (value : Meaning → Bool) (i step : ℕ) : T
   pub within : step ≤ n
   pub is : value (done i step) ≡ true
   pub least : (t : ℕ) → t < step → value (done i t) ≡ false
+
+-- It says of the event of this link of alarm i that the chain up to this alarm doesn't pass it on in the step after t steps.
+pub record IsUnpassed (code : CodedLog) (i link t : ℕ) (l : Lit) : Type 0 where
+  pub event : ℕ
+  pub linked : slice_get (matching_events code.net code.log i) link ≡ Some event
+  pub before : ℕ
+  pub stands : IsLink code.net code.log i event before
+  pub name : meaning_of (log_meanings code) l.var ≡ Some (unmatched event (suc before) (suc t))
+  pub sign : l.positive ≡ false

@@ -4,7 +4,7 @@ use Rattle.std.specs.List.{AllByRecursion}
 use Rattle.des_base.specs.declared.TheConstants.{VAR_LIMIT}
 use Rattle.des_net.specs.Network.{Net, observable_events}
 use Rattle.question_clauses.specs.Additions.{Addition, alarm_added, pair_added}
-use Rattle.question_clauses.specs.LogClauses.{chain, matching_events}
+use Rattle.question_clauses.specs.LogClauses.{IsLink, chain, matching_events}
 use Rattle.log_encode.specs.declared.draft.Change.{Change}
 use Rattle.log_encode.specs.declared.draft.Change.TheVariants.{Alarm, Pair}
 use Rattle.log_encode.specs.declared.draft.Draft.TheInside.{Inside as DraftInside}
@@ -12,7 +12,7 @@ use Rattle.log_encode.specs.declared.log_code.LogCode.TheInside.{Inside}
 use Rattle.log_encode.specs.declared.taken.ChainEnd.{ChainEnd}
 use Rattle.log_encode.specs.declared.taken.Taken.{Taken}
 use Rattle.log_encode.specs.AlarmState.{AlarmState, variables_of}
-use Rattle.log_encode.specs.AlarmVariables.{match_variable, done_variable, dropped_variable, alarm_width}
+use Rattle.log_encode.specs.AlarmVariables.{match_variable, passed_variable, done_variable, dropped_variable, alarm_width}
 use Rattle.log_encode.specs.CodedLog.{CodedLog, nameless, log_meanings, false_literals, IsCodedLog, code_after, addition_width}
 use Rattle.log_encode.specs.Drafted.{LogCodeState, DraftState}
 use Rattle.log_encode.specs.Written.{guards_of}
@@ -66,6 +66,8 @@ pub record IsCodedAlarm (code : CodedLog) (i : ℕ) (alarm : AlarmState) : Type 
   pub within : alarm.start + alarm_width (variables_of code.grid.steps alarm) ≤ code.vars
   pub matching : (p e t : ℕ) → slice_get (matching_events code.net code.log i) p ≡ Some e → t < code.grid.steps →
       meaning_of (log_meanings code) (match_variable (variables_of code.grid.steps alarm) p t) ≡ Some (matches i e (suc t))
+  pub passing : (p e t : ℕ) → slice_get (matching_events code.net code.log i) p ≡ Some e → t < code.grid.steps →
+      (k : ℕ) × IsLink code.net code.log i e k × (meaning_of (log_meanings code) (passed_variable (variables_of code.grid.steps alarm) p t) ≡ Some (remaining e (suc k) (suc t)))
   pub being_done : (t : ℕ) → t ≤ code.grid.steps → meaning_of (log_meanings code) (done_variable (variables_of code.grid.steps alarm) t) ≡ Some (done i t)
   pub mark : is_doubtful code.log i ≡ alarm.doubtful
   pub being_false : alarm.doubtful ≡ true → meaning_of (log_meanings code) (dropped_variable (variables_of code.grid.steps alarm)) ≡ Some (dropped i)

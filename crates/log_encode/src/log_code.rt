@@ -1,5 +1,5 @@
 // The code of an alarm log, which grows by drafts.
-ghost use Rattle.std.specs.Prelude.{◌≡◌, ◌<◌, ◌≤◌, ◌+◌, ◌*◌, ◌++◌, ◌∷◌, [], ℕ, Some, true, false, ◌&&◌, length, vec_len, vec_capacity, slice_get, IfOk, IfSome, OnOk, OnErr};
+ghost use Rattle.std.specs.Prelude.{◌≡◌, ◌<◌, ◌≤◌, ◌+◌, ◌*◌, ◌++◌, ◌∷◌, [], ℕ, Some, true, false, ◌&&◌, length, vec_len, vec_capacity, slice_get, nat_lt, is_some, IfOk, IfSome, OnOk, OnErr};
 ghost use Rattle.question_clauses.specs.Additions.{alarm_added, pair_added};
 ghost use Rattle.question_clauses.specs.Decoded.{alarm_at, is_false_alarm};
 ghost use Rattle.question_clauses.specs.LogClauses.{guard_literals, matching_events};
@@ -10,7 +10,7 @@ ghost use Rattle.prop_core.specs.VariableNames.{ReadsAs, meaning_of, named_claus
 ghost use Rattle.log_encode.specs.AlarmState.{variables_of, is_matched};
 ghost use Rattle.log_encode.specs.AlarmVariables.{AreWithinLimit, alarm_width, done_variable, dropped_variable};
 ghost use Rattle.log_encode.specs.CodedLog.{IsCodedLog, empty_code, code_after, log_meanings, false_literals, read_meanings, nameless, addition_width};
-ghost use Rattle.log_encode.specs.Drafted.{IsDraftOf, IsStepOfAlarm, HasRoomFor};
+ghost use Rattle.log_encode.specs.Drafted.{IsDraftOf, IsStepOfAlarm, IsUnpassed, HasRoomFor};
 ghost use Rattle.log_encode.specs.WrittenLog.{AppendsFirst};
 
 use crate::alarm_code::AlarmCode;
@@ -309,9 +309,11 @@ impl LogCode {
         self.alarms[alarm as usize].event_of(link)
     }
 
-    /// That an alarm doesn't pass an event on in the step after `step` steps: the event of the link of this number, if there are such a link and step.
+    /// That an alarm doesn't pass an event on in the step after `step` steps: the event of the link of this number, exactly if there are such a link and step.
     pub fn unpassed(&self, alarm: u32, link: u32, step: u32) -> Option<Lit>
         requires { alarm < length self.now.coded.log.alarms }
+        ensures there { is_some result ≡ (nat_lt link (length (matching_events self.now.coded.net self.now.coded.log alarm)) && nat_lt step self.now.coded.grid.steps) }
+        ensures says { IfSome result (IsUnpassed self.now.coded alarm link step) }
     {
         let alarm = &self.alarms[alarm as usize];
         if link as usize >= alarm.takes.len() || step >= self.grid.steps {
