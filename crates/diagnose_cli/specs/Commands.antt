@@ -225,7 +225,7 @@ verdicts_speech limits = record {
   size = λ texts. size_over_two texts (λ text alarms. question_size (network_of text) (log_of alarms) limits.steps);
   says = λ book texts told. OverTwo texts (λ text alarms. IsVerdicts (network_of text) (log_of alarms) limits.steps limits.budget book told);
   leaves = λ texts book. OverTwo texts (λ text alarms. LeavesVerdicts (network_of text) (log_of alarms) limits.steps limits.budget book);
-  lost = λ book. ⊤;
+  lost = λ book. book ≡ [];
 }
 
 -- `verdicts MODEL LOG N BUDGET`

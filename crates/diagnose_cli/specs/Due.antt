@@ -65,7 +65,7 @@ pub record StopsEmpty (may : Ending → Type 0) (book : List BookEntry) (e : End
 abbrev pub HasNotBegun : List (List ℕ) → List BookEntry → Type 0
 HasNotBegun words book = IfCalled (command_of words) (λ t. t.lost book)
 
--- What may come for these words with this book left: what is due, or out of memory before any text is put, where a session leaves an empty book. A stop leaves an empty book. That a session ran out of memory at one of its rows is due too, with the book that it came to.
+-- What may come for these words with this book left: what is due, or out of memory before any text is put, where a command with several replies leaves an empty book. A stop leaves an empty book. That a session ran out of memory at one of its rows, or `verdicts` at one of its questions, is due too, with the book that it came to.
 abbrev pub MayCome : Loads → List (List ℕ) → List BookEntry → Ending → Type 0
 MayCome l words book = OrMemory (StopsEmpty (Due l words book) book) (HasNotBegun words book)
 

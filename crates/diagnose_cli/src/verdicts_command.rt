@@ -66,5 +66,5 @@ impl Speaking for VerdictsCommand {
 
     ghost has_words = { refl };
 
-    ghost begun = { λ limits. tt };
+    ghost begun = { λ limits. refl };
 }

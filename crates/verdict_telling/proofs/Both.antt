@@ -5,6 +5,7 @@ use Rattle.des_net.specs.Network.{Net}
 use Rattle.fault_verdicts.proofs.Calling.{best_run}
 use Rattle.fault_verdicts.proofs.Ready.{ready_at_first}
 use Rattle.fault_verdicts.specs.Judged.{IsBestRun}
+use Rattle.inquiries.specs.Begun.{HasAskedWithin, HasQuestion}
 use Rattle.inquiries.specs.Diagnosed.{IsDiagnosed}
 use Rattle.least_faults.proofs.ColumnsBuilt.{question_columns}
 use Rattle.least_faults.specs.Columns.{columns_built}
@@ -94,9 +95,9 @@ module _ (net : Net) (log : Log) (n budget : ℕ) (book : List BookEntry) (befor
   }
 
   -- it came to no verdict
-  pub broken_first : (broken : Broken) → TellsFound net log n budget book before now rose (Err broken) → TellsWhole net log n budget book before now rose (Err broken)
-  broken_first Memory tells = inl tells
-  broken_first Put tells = (
+  pub broken_first : (broken : Broken) → HasQuestion net log n (HasAskedWithin budget) book → TellsFound net log n budget book before now rose (Err broken) → TellsWhole net log n budget book before now rose (Err broken)
+  broken_first Memory question tells = inl (record { question = inr question; put = tells })
+  broken_first Put question tells = (
     tells.0,
     record {
       found = tells.1;
@@ -134,6 +135,7 @@ module _ (net : Net) (log : Log) (n budget : ℕ) (best : Best) (front book : Li
     mid = tells.mid;
     have = record { front = front; diagnosed = first.0; later = tells.texts; follows = tells.front; are = refl };
     grown = tells.grown;
+    next = tells.next;
     put = took_texts before mid now (text_of_found net n (Explained best) ∷ []) tells.texts first.1 tells.put;
   }))
   then_judged (Err Put) result tells is rises = subst (TellsWhole net log n budget book before now all) (sym is) (

@@ -4,6 +4,7 @@ use Rattle.std.specs.List.{list_any}
 use Rattle.des_base.specs.Outside.{Output, Took, TookFront}
 use Rattle.des_net.specs.Network.{Net}
 use Rattle.answers.specs.declared.verdict.Verdict.{Verdict}
+use Rattle.inquiries.specs.Begun.{HasAskedWithin, LeavesQuestion}
 use Rattle.inquiries.specs.Diagnosed.{IsDiagnosed}
 use Rattle.least_faults.specs.Growing.{HasGrownWithin}
 use Rattle.answers.specs.declared.found.Found.{Found}
@@ -16,7 +17,7 @@ use Rattle.telling.specs.Telling.{RisesExactlyIf, TookCut}
 use Rattle.telling.specs.declared.each.Broken.{Broken}
 use Rattle.telling.specs.declared.each.Broken.TheVariants.{Memory, Put}
 use Rattle.verdict_telling.specs.Left.{LeavesVerdicts}
-use Rattle.verdict_telling.specs.Replied.{AreFirstJudged, is_undecided, matter_behind}
+use Rattle.verdict_telling.specs.Replied.{AreFirstJudged, LeavesNext, is_undecided, matter_behind}
 use Rattle.verdict_telling.specs.declared.whole.Told.{Told}
 use Rattle.verdict_telling.specs.declared.whole.Told.TheVariants.{Judged, NotExplained, TooMany, NotDecided}
 
@@ -58,6 +59,13 @@ pub record HaveReplies (net : Net) (log : Log) (n budget : ℕ) (found : Found) 
   pub follows : FollowsFound net log n budget found front book events verdicts later
   pub are : texts ≡ text_of_found net n found ∷ later
 
+-- Behind that book: for the next fault event a question was left open at most, or answered. Where no event is judged, nothing was put.
+abbrev pub FollowsNext : (net : Net) (log : Log) (n budget : ℕ) (found : Found) (old mid : List BookEntry) (events : List ℕ) (verdicts : List Verdict) (texts : List (List ℕ)) → FollowsFound net log n budget found old mid events verdicts texts → List BookEntry → Type 0
+FollowsNext net log n budget (Explained best) old mid events verdicts texts follows new = LeavesNext (matter_behind net log n budget best) follows.others mid new
+FollowsNext net log n budget Absent old mid events verdicts texts follows new = new ≡ mid
+FollowsNext net log n budget (Many best) old mid events verdicts texts follows new = new ≡ mid
+FollowsNext net log n budget (Undecided lo best) old mid events verdicts texts follows new = new ≡ mid
+
 -- ---- how it ends
 
 -- the events that are to be judged behind what was found
@@ -83,6 +91,11 @@ pub record IsAllSaid (net : Net) (log : Log) (n budget : ℕ) (book : List BookE
   pub told_is : told ≡ told_of found verdicts
   pub put : Took before now texts
 
+-- It ran out of memory before anything was taken. The book has at most the question of the log, asked once.
+pub record IsBrokenFirst (net : Net) (log : Log) (n budget : ℕ) (book : List BookEntry) (before now : Output) : Type 0 where
+  pub question : LeavesQuestion net log n (HasAskedWithin budget) book
+  pub put : Took before now []
+
 -- It ran out of memory behind some of the replies, which were taken. The book has at most what was put for the next event.
 pub record IsBrokenOff (net : Net) (log : Log) (n budget : ℕ) (book : List BookEntry) (before now : Output) : Type 0 where
   pub found : Found
@@ -92,6 +105,7 @@ pub record IsBrokenOff (net : Net) (log : Log) (n budget : ℕ) (book : List Boo
   pub mid : List BookEntry
   pub have : HaveReplies net log n budget found events mid verdicts texts
   pub grown : HasGrownWithin budget mid book
+  pub next : FollowsNext net log n budget found have.front mid events verdicts have.later have.follows book
   pub put : Took before now texts
 
 -- The last reply couldn't be put whole: that about the log, or on the last of these events.
@@ -106,7 +120,7 @@ pub record IsCutInReply (net : Net) (log : Log) (n budget : ℕ) (book : List Bo
 -- by how telling ends; it may run out of memory before anything is taken
 abbrev pub TellsWhole : Net → Log → ℕ → ℕ → List BookEntry → Output → Output → Type 0 → Result Told Broken → Type 0
 TellsWhole net log n budget book before now rose (Ok told) = IsAllSaid net log n budget book before now told
-TellsWhole net log n budget book before now rose (Err Memory) = Took before now [] ⊎ IsBrokenOff net log n budget book before now
+TellsWhole net log n budget book before now rose (Err Memory) = IsBrokenFirst net log n budget book before now ⊎ IsBrokenOff net log n budget book before now
 TellsWhole net log n budget book before now rose (Err Put) = rose × IsCutInReply net log n budget book before now
 
 -- how telling ends, what is left in the book, and that a put failed exactly if that is answered

@@ -4,7 +4,7 @@ use Rattle.telling.proofs.Taking.{nothing_taken}
 use Rattle.verdict_telling.proofs.posing.tell_by_solver.Goals as goal
 
 pub returns-in-Err-clause-tells : goal.returns-in-Err-clause-tells
-returns-in-Err-clause-tells g c = inl (nothing_taken _)
+returns-in-Err-clause-tells g c = inl (record { question = inl (ap (λ (b : _). b.entries) c.new.ensures); put = nothing_taken _ })
 
 pub returns-in-Ok-clause-left : goal.returns-in-Ok-clause-left
 returns-in-Ok-clause-left g c = inr (c.tell_whole.ensures.left, c.tell_whole.ensures.in_order)

@@ -15,7 +15,10 @@ pub returns-in-Ok-clause-failures : goal.returns-in-Ok-clause-failures
 returns-in-Ok-clause-failures g c = c.in-Ok.ensures.says.failures
 
 pub returns-in-Err-clause-tells : goal.returns-in-Err-clause-tells
-returns-in-Err-clause-tells g c = inl (subst (λ (s : _). Took (g.S.Sink.taken c.args.out.now) (g.S.Sink.taken s) []) (sym c.in-Err.ensures.nothing_put) (nothing_taken _))
+returns-in-Err-clause-tells g c = inl (record {
+  question = inl (ap (λ (b : _). b.entries) c.in-Err.ensures.no_book ∙ c.requires.empty);
+  put = subst (λ (s : _). Took (g.S.Sink.taken c.args.out.now) (g.S.Sink.taken s) []) (sym c.in-Err.ensures.nothing_put) (nothing_taken _);
+})
 
 pub returns-in-Err-clause-left : goal.returns-in-Err-clause-left
 returns-in-Err-clause-left g c = inl (ap (λ (b : _). b.entries) c.in-Err.ensures.no_book ∙ c.requires.empty)

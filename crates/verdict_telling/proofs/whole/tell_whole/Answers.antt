@@ -37,7 +37,7 @@ returns-in-Ok-Undecided-clause-tells g c =
     said_alone c.args.case.now.net c.args.case.now.log c.args.steps c.args.budget c.tell_found.new.book.entries _ _ (Rose (g.S.Sink.faults c.args.out.now) (g.S.Sink.faults c.tell_found.new.out)) (Undecided _ _) NotDecided refl refl tells
 
 pub returns-clause-tells : goal.returns-clause-tells
-returns-clause-tells g c = broken_first c.args.case.now.net c.args.case.now.log c.args.steps c.args.budget c.tell_found.new.book.entries _ _ _ c.in-Err.broken c.in-Err.ensures.tells
+returns-clause-tells g c = broken_first c.args.case.now.net c.args.case.now.log c.args.steps c.args.budget c.tell_found.new.book.entries _ _ _ c.in-Err.broken c.tell_found.ensures.left c.in-Err.ensures.tells
 
 pub returns-in-Ok-Explained-clause-failures : goal.returns-in-Ok-Explained-clause-failures
 returns-in-Ok-Explained-clause-failures g c = judged_fails c.tell_verdicts-told.result c.judged.result _ _ _ c.judged.ensures (c.in-Ok-Explained.ensures.failures.stays (λ put. cc)) c.tell_verdicts-told.ensures.failures
