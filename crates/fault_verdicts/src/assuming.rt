@@ -47,7 +47,7 @@ pub fn assume_none<R: Fn(u32) -> u64>(
     requires few { k ≤ 255 }
     requires known { event < length parts.old.step.net.events }
     ensures ready { AreReadyForVerdicts R.pre R.post parts.new book.new.entries }
-    ensures goes_on { KeepsStepsAndLog 1 parts.old parts.new }
+    ensures goes_on { KeepsStepsAndLog 0 parts.old parts.new }
     ensures axioms { AddsAxioms book.old.entries book.new.entries }
     ensures assumed { IfOk result (λ assumed. AreAssumedOf R.pre R.post parts.new book.new.entries k event true assumed.items) }
 {

@@ -27,8 +27,9 @@ use std::alloc::Global;
 /// as the budget says.
 ///
 /// A run with the least number of faults is known. If it has the event, the question is for one without it, and otherwise for one
-/// with it. For the latter a variable is made, and the axiom added that gives the event in some step where it is true. The book gets a
-/// mark 0 first, and a mark 1 before each answer but `Memory`; after that the next call is still allowed.
+/// with it. For the latter a variable is made, and the axiom added that gives the event in some step where it is true; for the
+/// former none is. The book gets a mark 0 first, and a mark 1 before each answer but `Memory`; after that the next call is still
+/// allowed.
 pub fn verdict<R: Fn(u32) -> u64>(
     alloc: Global,
     net: &Network,
@@ -50,6 +51,7 @@ pub fn verdict<R: Fn(u32) -> u64>(
     requires room { parts.old.vars ≤ 1000000000 }
     ensures ready { AreReadyForVerdicts R.pre R.post parts.new book.new.entries }
     ensures goes_on { KeepsStepsAndLog 1 parts.old parts.new }
+    ensures unmade { Contains (word_of first.now) event → KeepsStepsAndLog 0 parts.old parts.new }
     ensures grown { HasGrownWithin budget book.old.entries book.new.entries }
     ensures judged { IfOk result (IsJudged net.now log.now parts.new.step.steps k event budget first.now book.old.entries book.new.entries) }
     ensures unanswered { OnErr result (IsVerdictOpenAtMost net.now log.now parts.new.step.steps k event budget first.now book.old.entries book.new.entries) }
@@ -82,6 +84,7 @@ fn ask<R: Fn(u32) -> u64>(
     requires room { parts.old.vars ≤ 1000000000 }
     ensures ready { AreReadyForVerdicts R.pre R.post parts.new book.new.entries }
     ensures goes_on { KeepsStepsAndLog 1 parts.old parts.new }
+    ensures unmade { Contains (word_of first.now) event → KeepsStepsAndLog 0 parts.old parts.new }
     ensures searching { IsSearching book.old.entries book.new.entries left.old left.new }
     ensures asked { IfOk result (IsVerdictShown question.entry.net.now question.entry.log.now parts.new.step.steps k event first.now left.old left.new book.old.entries book.new.entries) }
     ensures quit { OnErr result (EndsWithoutVerdict question.entry.net.now question.entry.log.now parts.new.step.steps k event first.now book.old.entries book.new.entries) }
@@ -123,6 +126,7 @@ fn solve<R: Fn(u32) -> u64>(
     requires room { parts.old.vars ≤ 1000000000 }
     ensures ready { AreReadyForVerdicts R.pre R.post parts.new book.new.entries }
     ensures goes_on { KeepsStepsAndLog 1 parts.old parts.new }
+    ensures unmade { there ≡ true → KeepsStepsAndLog 0 parts.old parts.new }
     ensures searching { IsSearching book.old.entries book.new.entries left.old left.new }
     ensures solved { IfOk result (IsSolvedAbout R.pre R.post parts.new k event there book.old.entries book.new.entries left.old left.new) }
     ensures quit { OnErr result (PutsNoFinal book.old.entries book.new.entries) }
@@ -149,6 +153,7 @@ fn assume<R: Fn(u32) -> u64>(
     requires room { parts.old.vars ≤ 1000000000 }
     ensures ready { AreReadyForVerdicts R.pre R.post parts.new book.new.entries }
     ensures goes_on { KeepsStepsAndLog 1 parts.old parts.new }
+    ensures unmade { there ≡ true → KeepsStepsAndLog 0 parts.old parts.new }
     ensures axioms { AddsAxioms book.old.entries book.new.entries }
     ensures assumed { IfOk result (λ assumed. AreAssumedOf R.pre R.post parts.new book.new.entries k event there assumed.items) }
 {

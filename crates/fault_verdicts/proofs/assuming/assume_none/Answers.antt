@@ -1,19 +1,9 @@
-use Rattle.std.proofs.Common.{◌∙◌, ◌++◌, ap, arith, false, refl, sym}
+use Rattle.std.proofs.Common.{◌∙◌, ◌++◌, ap, false, refl, sym}
 use Rattle.fault_verdicts.proofs.Asking.{none_signed}
-use Rattle.fault_verdicts.proofs.Going.{goes_more}
 use Rattle.fault_verdicts.proofs.assuming.assume_none.Goals as goal
 use Rattle.fault_verdicts.specs.Asked.{no_step_literals}
 use Rattle.fault_verdicts.specs.Judging.{event_signed}
 use Rattle.step_encode.specs.Coded.{code_grid}
-
-pub returns-in_err-assumed-clause-goes_on : goal.returns-in_err-assumed-clause-goes_on
-returns-in_err-assumed-clause-goes_on g c = goes_more 0 1 c.args.parts.now c.guards_within.new.parts (omega arith) c.guards_within.ensures.goes_on
-
-pub returns-in_err-push_event-clause-goes_on : goal.returns-in_err-push_event-clause-goes_on
-returns-in_err-push_event-clause-goes_on g c = goes_more 0 1 c.args.parts.now c.guards_within.new.parts (omega arith) c.guards_within.ensures.goes_on
-
-pub returns-clause-goes_on : goal.returns-clause-goes_on
-returns-clause-goes_on g c = goes_more 0 1 c.args.parts.now c.guards_within.new.parts (omega arith) c.guards_within.ensures.goes_on
 
 pub returns-clause-ready : goal.returns-clause-ready
 returns-clause-ready g c = (c.requires.ready.0, c.guards_within.ensures.ready c.requires.ready.0 c.requires.ready.1)

@@ -39,3 +39,18 @@ returns-in_err-decode-in-Sat-clause-quit g c =
     on_err _ _ (shown_unanswered _ _ c.args.parts.now c.solve.new.parts _ _ c.args.k c.args.event c.args.first.now c.has_event-there.result c.args.book.now.entries c.solve.new.book.entries c.args.left.now c.solve.new.left c.in_ok-answer.answer
     c.solve.ensures.goes_on c.requires.belong c.requires.best c.has_event-there.ensures c.is_built.ensures.network c.is_whole.ensures.whole.valid c.requires.known c.in_ok-answer.ensures.solved
     )
+
+pub returns-in_err-answer-clause-unmade : goal.returns-in_err-answer-clause-unmade
+returns-in_err-answer-clause-unmade g c has = c.solve.ensures.unmade (c.has_event-there.ensures.1 has)
+
+pub returns-in_err-decode-in-Sat-clause-unmade : goal.returns-in_err-decode-in-Sat-clause-unmade
+returns-in_err-decode-in-Sat-clause-unmade g c has = c.solve.ensures.unmade (c.has_event-there.ensures.1 has)
+
+pub returns-in-Unsat-clause-unmade : goal.returns-in-Unsat-clause-unmade
+returns-in-Unsat-clause-unmade g c has = c.solve.ensures.unmade (c.has_event-there.ensures.1 has)
+
+pub returns-in-Spent-clause-unmade : goal.returns-in-Spent-clause-unmade
+returns-in-Spent-clause-unmade g c has = c.solve.ensures.unmade (c.has_event-there.ensures.1 has)
+
+pub returns-in_ok-decode-in-Sat-clause-unmade : goal.returns-in_ok-decode-in-Sat-clause-unmade
+returns-in_ok-decode-in-Sat-clause-unmade g c has = c.solve.ensures.unmade (c.has_event-there.ensures.1 has)

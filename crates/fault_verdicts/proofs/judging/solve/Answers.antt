@@ -32,6 +32,10 @@ pub returns-clause-goes_on : goal.returns-clause-goes_on
 returns-clause-goes_on g c =
     goes_both 1 0 1 c.args.parts.now c.assume.new.parts (record c.assume.new.parts { solver = c.solve.new.self }) (omega arith) c.assume.ensures.goes_on (goes_by_solver 0 c.assume.new.parts c.solve.new.self c.solve.ensures.kept.order.rank)
 
+pub returns-clause-unmade : goal.returns-clause-unmade
+returns-clause-unmade g c there =
+    goes_both 0 0 0 c.args.parts.now c.assume.new.parts (record c.assume.new.parts { solver = c.solve.new.self }) (omega arith) (c.assume.ensures.unmade there) (goes_by_solver 0 c.assume.new.parts c.solve.new.self c.solve.ensures.kept.order.rank)
+
 pub returns-clause-searching : goal.returns-clause-searching
 returns-clause-searching g c = searching_both c.args.book.now.entries c.assume.new.book.entries c.solve.new.book.entries c.args.left.now c.solve.new.budget c.assume.ensures.axioms c.solve.ensures.searched c.assume.ensures.ready.1.beside.known
 

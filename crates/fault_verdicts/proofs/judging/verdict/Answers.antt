@@ -1,5 +1,6 @@
 use Rattle.des_base.proofs.Results.{on_err}
-use Rattle.std.proofs.Common.{ap, inl, subst, sym}
+use Rattle.std.proofs.Common.{List, ap, inl, subst, sym}
+use Rattle.std.specs.Prelude.{Contains}
 use Rattle.fault_verdicts.proofs.Answered.{judged, left_open, unanswered_shown}
 use Rattle.fault_verdicts.proofs.Going.{goes_nowhere, ready_with_mark}
 use Rattle.fault_verdicts.proofs.judging.verdict.Goals as goal
@@ -9,6 +10,8 @@ use Rattle.fault_verdicts.specs.Ready.{AreReadyForVerdicts}
 use Rattle.least_faults.proofs.Closing.{grown_closed, grown_not, grown_opened}
 use Rattle.least_faults.specs.Growing.{HasGrownWithin}
 use Rattle.proof_ledger.specs.Kept.{LedgerState}
+use Rattle.replay.specs.Traced.{word_of}
+use Rattle.replay.specs.declared.run.RunStep.{RunStep}
 
 pub ask-requires-clause-ready : goal.ask-requires-clause-ready
 ask-requires-clause-ready g c = ready_with_mark _ _ c.args.parts.now 0 c.args.book.now.entries c.put_mark.new.self.entries (ap (λ (b : LedgerState). b.entries) c.in_ok-put_mark.ensures.added) c.requires.ready
@@ -68,3 +71,12 @@ returns-in_err-put_mark-2-clause-unanswered g c =
     (ap (λ (b : LedgerState). b.entries) c.in_ok-put_mark.ensures.added) c.ask.ensures.searching
     (subst (λ steps. EndsWithoutVerdict c.args.net.now c.args.log.now c.ask.new.parts.step.steps c.args.k c.args.event steps c.put_mark.new.self.entries c.ask.new.book.entries) c.steps.ensures.steps (unanswered_shown _ _ _ _ _ _ _ _ _ _ _ c.in_ok-verdict.ensures.asked)))
     )
+
+pub returns-in_err-verdict-clause-unmade : goal.returns-in_err-verdict-clause-unmade
+returns-in_err-verdict-clause-unmade g c has = c.ask.ensures.unmade (subst (λ (steps : List RunStep). Contains (word_of steps) c.args.event) (sym c.steps.ensures.steps) has)
+
+pub returns-in_err-put_mark-2-clause-unmade : goal.returns-in_err-put_mark-2-clause-unmade
+returns-in_err-put_mark-2-clause-unmade g c has = c.ask.ensures.unmade (subst (λ (steps : List RunStep). Contains (word_of steps) c.args.event) (sym c.steps.ensures.steps) has)
+
+pub returns-clause-unmade : goal.returns-clause-unmade
+returns-clause-unmade g c has = c.ask.ensures.unmade (subst (λ (steps : List RunStep). Contains (word_of steps) c.args.event) (sym c.steps.ensures.steps) has)
