@@ -23,20 +23,20 @@ pub trait Answering {
     /// Its record.
     ghost named: { NamedCommand OneReply };
 
-    /// It stands in the list.
+    /// It is one of the listed commands.
     ghost listed: { (words : List (List ℕ)) → IsInList (one named) words };
 
     /// What its words spell.
     ghost word: { Self → named.Word };
 
-    /// What is so of that.
+    /// What holds of what they spell, such as a limit.
     ghost fits: { Self → Type 0 } = { λ _. ⊤ };
 
-    /// How many words call it.
+    /// How many words it takes, with its name.
     fn word_count() -> usize
         ensures { result ≡ named.count };
 
-    /// The command that so many words spell.
+    /// The command that these words spell.
     fn read(words: &WordList) -> Option<Self>
         requires { length words.now ≡ named.count }
         ensures read { option_map word result ≡ named.spelled words.now }
@@ -64,7 +64,7 @@ pub trait Answering {
     ghost has_words: { nat_lt (length Self.Files.kinds) named.count ≡ true };
 }
 
-/// The command that the words spell, of which the first is its name.
+/// The command that the words spell, if its name is the first.
 pub fn read_command<C: Answering>(words: &WordList) -> Option<C>
     requires name { word_at words.now 0 ≡ C.named.name }
     ensures called { IfSome result (λ command. AreWords (one C.named) (C.word command) words.now) }

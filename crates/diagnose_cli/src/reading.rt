@@ -1,4 +1,4 @@
-// What is read of the files of a command, one behind another.
+// The files of a command, which are read in the order of the words. A later file may be read by what stands in the earlier ones.
 ghost use Rattle.std.specs.Prelude.{◌≡◌, ◌≢◌, ℕ, ◌+◌, ◌<◌, ◌≤◌, ⊤, List, [], ◌∷◌, ◌++◌, length, IfErr, IfOk, Option, refl};
 ghost use Rattle.std.proofs.Common.{ap, subst, sym};
 ghost use Rattle.des_base.specs.CommandWords.{word_at};
@@ -288,7 +288,7 @@ impl Reading for Checked {
     }
 }
 
-// ---- these, by the names of what they have
+// ---- two files or three as a value with a name for each
 
 /// A network, and a run over it.
 #[derive(Drop)]

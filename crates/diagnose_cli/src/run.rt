@@ -68,7 +68,7 @@ pub fn run<F: Shelf, S: Sink>(
     respond(alloc, words, shelf, out, book)
 }
 
-// Puts what the command says that the first word names.
+// Runs the command that the first word names, and puts what it says.
 fn respond<F: Shelf, S: Sink>(
     alloc: Global,
     words: &WordList,
@@ -100,7 +100,7 @@ fn respond<F: Shelf, S: Sink>(
     }
 }
 
-// Puts that the words call no command.
+// Puts the usage: the words call no command.
 fn put_usage<F: Shelf, S: Sink>(
     alloc: Global,
     _words: &WordList,
@@ -115,7 +115,7 @@ fn put_usage<F: Shelf, S: Sink>(
     put_once(alloc, Err(Stop::Usage), out)
 }
 
-// Puts the reply of a command that has one.
+// Runs a command with one reply, and puts that.
 fn put_reply<C: Answering + Drop, F: Shelf, S: Sink>(
     alloc: Global,
     words: &WordList,
@@ -133,7 +133,7 @@ fn put_reply<C: Answering + Drop, F: Shelf, S: Sink>(
     }
 }
 
-// Puts the reply of a command that the words call.
+// Runs such a command, whose words have been read.
 fn put_answer<C: Answering, F: Shelf, S: Sink>(
     alloc: Global,
     words: &WordList,
@@ -151,7 +151,7 @@ fn put_answer<C: Answering, F: Shelf, S: Sink>(
     put_once(alloc, ending, out)
 }
 
-// Puts what a command says that has several replies.
+// Runs a command with several replies, and puts each.
 fn put_replies<C: Speaking, F: Shelf, S: Sink>(
     alloc: Global,
     words: &WordList,

@@ -31,7 +31,7 @@ pub trait Speaking {
     /// What is read of its files.
     type Files: Reading + Drop;
 
-    /// What it tells in all.
+    /// The outcome of telling: what its status depends on.
     type Told;
 
     /// Its name.
@@ -43,13 +43,13 @@ pub trait Speaking {
     /// What it has to do, by its steps and its budget.
     ghost speech: { Limits → Speech };
 
-    /// It stands in the list.
+    /// It is one of the listed commands.
     ghost listed: { (words : List (List ℕ)) → IsInList (told_often name kinds speech) words };
 
     /// How large its question is, over its files.
     ghost sized: { Self.Files → Limits → ℕ };
 
-    /// The kind of what it tells in all.
+    /// The kind of an outcome.
     ghost kind: { Self.Told → Kind };
 
     /// The size of its question.
@@ -84,7 +84,7 @@ pub trait Speaking {
     ghost begun: { (limits : Limits) → (speech limits).lost [] };
 }
 
-/// Says what the words ask for, which call it, and answers the exit status.
+/// Runs a command that the words call: puts its replies, and answers the exit status.
 pub fn speak<C: Speaking, F: Shelf, S: Sink>(
     alloc: Global,
     words: &WordList,
@@ -109,7 +109,7 @@ pub fn speak<C: Speaking, F: Shelf, S: Sink>(
     }
 }
 
-// Says it over its files.
+// Runs it over its files, if its question isn't too large.
 fn speak_over<C: Speaking, S: Sink>(
     alloc: Global,
     files: C::Files,
@@ -132,7 +132,7 @@ fn speak_over<C: Speaking, S: Sink>(
     status_of::<C>(C::tell(alloc, files, limits, out, book))
 }
 
-// The status, by how it tells.
+// The status, by how telling ended.
 fn status_of<C: Speaking>(told: Result<C::Told, Broken>) -> u8
     ensures { result ≡ status_of_telling C.kind told }
 {

@@ -1,9 +1,9 @@
 // What a search about a fault event tries first: how many faults are counted up to each event.
 //
-// A run that differs from the known one in an event has as many faults, and the counter counts fault events one after another. A search that settles first
-// how many are counted up to which event splits the others into those before the event in question and those behind it. What it learns speaks of
-// counts beside the event and not of the event, so it serves the questions about the events that follow. By activity each event is refuted anew. No contract
-// says that it is good to try this.
+// The run that is asked for has as many faults as the known one, and the counter goes through the fault events in order. A search that first settles how many
+// faults are counted up to each event splits the others into those before the event in question and those behind it. What it learns speaks of counts and
+// not of that event, so it serves the questions about later events too; a search by activity refutes each event anew. No contract says that it is good to
+// try this.
 ghost use Rattle.std.specs.Prelude.{◌≡◌};
 
 use des_base::Memory;

@@ -1,10 +1,10 @@
 // The deadlines of alarms: the numbers of steps within which they have to be done.
 //
-// Events that touch one component never share a step. So where two alarms are certain, and one component is touched by each event that either of them
-// may stand for, the first of the pair is done at least a step before the second. A search finds out slowly how few steps that leaves
-// the alarms of a long chain: it matches some of them here and there, and each conflict says little. But that an alarm misses its deadline,
-// where those behind it keep theirs, is refuted by propagation alone, or nearly so, and what is learnt from it is short. So the solver is
-// advised to try that. No contract says that the advice is good.
+// Events that touch the same component never share a step. Say the first alarm of a pair and the second are both certain, and every event that
+// either may stand for touches one component: then the first is done at least a step before the second. In a long chain of such pairs few steps
+// are left to each alarm. A search finds that out slowly: it matches alarms here and there, and learns little from each conflict. But try that an
+// alarm misses its deadline, while those behind it keep theirs: propagation (almost) alone refutes it, and the clause that is learnt is short. So
+// the solver is advised to try that first. No contract says that the advice is good.
 ghost use Rattle.std.specs.Prelude.{◌≡◌, ◌<◌, length, IfOk, OnOk};
 ghost use Rattle.std.specs.List.{AllByRecursion};
 ghost use Rattle.least_faults.specs.Parts.{BelongTo};
@@ -38,8 +38,8 @@ pub fn advise<R: Fn(u32) -> u64>(
     Ok(())
 }
 
-// That the alarms miss their deadlines, where these come before the last step: the last alarm of the log's order first. Then what is tried where all
-// are of one device and some in no order.
+// What to try: for each alarm whose deadline comes before the last step, that it misses its deadline, the last alarm in the order first. Behind these
+// stands what is tried of loose alarms, if they are loose.
 pub fn missed_deadlines(question: Question<'_>, code: &LogCode) -> Result<Vec<Lit>, Memory>
     requires { IsCodeFor question.net.now question.log.now code.now.coded }
 {
@@ -61,7 +61,7 @@ pub fn missed_deadlines(question: Question<'_>, code: &LogCode) -> Result<Vec<Li
     Ok(missed)
 }
 
-// The deadline of each alarm, where all are done within `steps` steps. The order keeps all pairs.
+// The deadline of each alarm, if all have to be done within `steps` steps. The order keeps all pairs.
 fn deadlines(
     question: Question<'_>,
     devices: &[Vec<CompId>],
@@ -113,7 +113,7 @@ fn put_earlier(pairs: &[(u32, u32)], earlier: &mut Vec<Vec<u32>>) -> Result<(), 
     Ok(())
 }
 
-// Lets the alarms that come before one in a pair be done by its deadline, or a step before it where events of both never share a step.
+// Brings forward the deadlines of those that a pair puts before an alarm: to its own, or a step before it if events of both never share a step.
 fn hasten(earlier: &[u32], devices: &[Vec<CompId>], second: usize, deadlines: &mut [u32])
     requires second { second < length deadlines.old }
     requires devices { length devices.now ≡ length deadlines.old }
@@ -137,7 +137,7 @@ fn meet(first: &[CompId], second: &[CompId]) -> bool {
     first.iter().any(|comp| second.contains(comp))
 }
 
-// For each alarm the components that each event touches that it may stand for: none if it is doubtful.
+// For each alarm, the components that every event it may stand for touches: none if it is doubtful.
 pub fn devices(question: Question<'_>, code: &LogCode) -> Result<Vec<Vec<CompId>>, Memory>
     requires { IsCodeFor question.net.now question.log.now code.now.coded }
     ensures { IfOk result (λ devices. length devices.items ≡ length question.entry.log.now.alarms) }
@@ -159,7 +159,7 @@ fn devices_of(question: Question<'_>, code: &LogCode, alarm: u32) -> Result<Vec<
     }
 }
 
-// The components of an event that each event touches that the alarm may stand for.
+// The components of an event that every event the alarm may stand for touches.
 fn touched(
     question: Question<'_>,
     code: &LogCode,
@@ -179,7 +179,7 @@ fn touched(
     Ok(touched)
 }
 
-// Whether each event touches the component that the alarm may stand for.
+// Whether every event the alarm may stand for touches the component.
 fn is_touched_by_each(net: &Network, code: &LogCode, alarm: u32, comp: CompId) -> bool
     requires net { code.now.coded.net ≡ net.now }
     requires alarm { alarm < length code.now.coded.log.alarms }

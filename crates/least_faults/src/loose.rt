@@ -1,8 +1,8 @@
-// What a search tries if all alarms are of one device and some of them in no order: step by step from the last one on, that no alarm passes on an event
-// that it may stand for.
+// What a search tries if the alarms are *loose*: all of one device, and some in no order. It tries, from the last step back to the first, that no alarm
+// passes on an event that it may stand for.
 //
-// Such alarms may stand in many orders, and each is as good as another; a search by activity goes through them. Where the last steps are settled
-// first, what is learnt says which alarms are left to the steps before, whatever the order of those behind them. No contract says that it is good to
+// Loose alarms can be matched in many orders, all equally good, and a search by activity goes through them one by one. If the last steps are settled
+// first, what is learnt says which alarms are left to the earlier steps, whatever the order of the later ones. No contract says that it is good to
 // try this.
 ghost use Rattle.std.specs.Prelude.{◌<◌, ◌≤◌, length};
 
@@ -13,12 +13,12 @@ use prop_core::Lit;
 // No more literals are tried.
 const MOST: usize = 100_000;
 
-// Whether each alarm is surely on one device, and two of them have one deadline, so that these are in no order.
+// Whether all alarms are surely of one device, and two of them have the same deadline, so that no pair orders these.
 pub fn are_loose(devices: &[Vec<CompId>], deadlines: &[u32]) -> bool {
     have_one_device(devices) && has_one_twice(deadlines)
 }
 
-// Whether some component is one of each alarm's.
+// Whether the alarms have a component in common.
 fn have_one_device(devices: &[Vec<CompId>]) -> bool {
     match devices.first() {
         Some(own) => own

@@ -1,9 +1,9 @@
-// What a search within bounds tries if most alarms may be of several devices and few of them are in an order: device by device from the last one on,
-// and for each step by step from the last one on, that no alarm passes on an event that touches this device and none before it.
+// What a search within a bound tries if the alarms are *scattered*: most may be of several devices, and few are in an order. It tries, from the last device
+// back to the first and from the last step back to the first, that no alarm passes on an event whose first device is this one.
 //
-// The counter counts fault events one after another. So a search that settles the last ones first knows soon how many faults are left to the others,
-// and what it learns says which alarms are left to them, whatever alarms those behind were. By activity it goes through the ways to share the alarms out among
-// the devices. Without a bound there is nothing to be counted, and it would be in the way. No contract says that it is good to try this.
+// The counter goes through the fault events in order. So a search that settles the last devices first soon knows how many faults are left to the others,
+// and what it learns says which alarms are left to them. A search by activity goes through all ways to share the alarms out among the devices. Without a
+// bound nothing is counted, and this order would only be in the way. No contract says that it is good to try this.
 ghost use Rattle.std.specs.Prelude.{◌≡◌, ◌<◌, ◌≤◌, length};
 ghost use Rattle.least_faults.specs.Parts.{BelongTo};
 ghost use Rattle.least_faults.specs.Trying.{IsCodeFor};
@@ -49,7 +49,7 @@ fn tries_within(question: Question<'_>, code: &LogCode) -> Result<Option<Vec<Lit
     Ok(Some(tries))
 }
 
-// Whether more than half of the alarms are certain and surely of no device, and there are fewer pairs than a quarter of the alarms and one.
+// Whether more than half of the alarms are certain and of no one device for sure, and there are at most a quarter as many pairs as alarms.
 fn are_scattered(question: Question<'_>, devices: &[Vec<CompId>]) -> bool
     requires { length devices.now ≡ length question.log.now.alarms }
 {
@@ -99,7 +99,7 @@ fn push_steps(
     Ok(())
 }
 
-// For each device the links of the events that touch it and none before it.
+// For each device, the links of the events whose first device it is.
 fn links_by_device(question: Question<'_>, code: &LogCode) -> Result<Vec<Vec<Link>>, Memory>
     requires { IsCodeFor question.net.now question.log.now code.now.coded }
 {

@@ -8,7 +8,7 @@ pub fn runs_read_back()
     ensures { PrintedRunsReadBack }
 {}
 
-/// So does a reply that has a run, as it stands.
+/// A reply that has a run reads back as that run too, with nothing cut off.
 pub fn replies_read_back()
     ensures { RepliesReadBack }
 {}

@@ -27,8 +27,8 @@ pub enum Propagated {
 ///
 /// Room for literals is taken by `grow` and room for clauses by `reserve_clauses`; no other call takes memory. A clause with
 /// two different literals is watched at two of them, and looked at again where one of these becomes false (Moskewicz and
-/// others, "Chaff: engineering an efficient SAT solver", 2001). Of the clauses that joined last, those are watched no more that one subsumes
-/// which joins later: they stay attached, and are quiet where that one is.
+/// others, "Chaff: engineering an efficient SAT solver", 2001). One of the clauses that joined last is watched no more once a later one
+/// subsumes it: it stays attached, and is quiet where that one is.
 #[derive(Drop)]
 pub struct Propagator {
     trail: Trail,

@@ -1,4 +1,4 @@
-// Propagation by watched literals: a clause is looked at where one of the two that are watched becomes false. What a later learnt clause
+// Propagation by watched literals: a clause is looked at when one of its two watched literals becomes false. A clause that a later learnt one
 // subsumes is no longer watched.
 ghost use Rattle.std.specs.Prelude.{◌≡◌, ◌≢◌, ◌↔◌, ◌+◌, ◌<◌, ◌≤◌, ◌||◌, ◌⊎◌, [], true, false, length, max, min, take, Some, Contains, OnOk, OnErr, IfSome, IfNone, IsTrue};
 ghost use Rattle.std.specs.List.{list_any, list_all};
@@ -108,8 +108,8 @@ impl Watched {
         }
     }
 
-    /// Attaches a clause to the trail too. Where all its literals but an open one are false by those that have been looked at, that one is
-    /// made true, so that none has to be looked at again. What it subsumes of the clauses that joined last is no longer watched.
+    /// Watches a learnt clause, and attaches it to the trail too. If it has one open literal and the literals that have been looked at make all others
+    /// false, that one is made true, so that nothing has to be looked at again. Those of the clauses that joined last that it subsumes are no longer watched.
     pub fn join(&mut self, trail: &mut Trail, db: &Clauses, id: ClauseId)
         requires watched { AreWatched trail.old self.old }
         requires room { 1 ≤ trail.old.spare }
@@ -159,7 +159,7 @@ impl Watched {
         }
     }
 
-    // Those of the clauses that joined last are no longer watched that the newer one subsumes.
+    // Stops watching those of the clauses that joined last that the newer one subsumes.
     fn drop_each_subsumed(&mut self, trail: &Trail, db: &Clauses, newer: RecentClause)
         requires watched { AreWatched trail.now self.old }
         requires grown { IsFront trail.now.clauses db.now.clauses }
@@ -174,7 +174,7 @@ impl Watched {
         }
     }
 
-    // The clause of one watch is no longer watched where that of another watch subsumes it, and is another clause.
+    // Stops watching the clause of one watch if the clause of another watch subsumes it, and is a different one.
     fn drop_subsumed(&mut self, trail: &Trail, db: &Clauses, older: u32, newer: u32)
         requires watched { AreWatched trail.now self.old }
         requires grown { IsFront trail.now.clauses db.now.clauses }
