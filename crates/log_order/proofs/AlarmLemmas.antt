@@ -19,11 +19,6 @@ pub place_of-absent : (text : List ℕ) (texts : List (List ℕ)) → list_any (
 place_of-absent text [] h = refl
 place_of-absent text (x ∷ xs) h = none_step (bytes_eq text x) (list_any (bytes_eq text) xs) (place_of text xs) h (place_of-absent text xs)
 
--- a label was added, and the labels are names
-pub record IsAdded (old : List (List ℕ)) (text : List ℕ) (new : List (List ℕ)) : Type 0 where
-  pub is : new ≡ with_text old text
-  pub names : AreNames old → AreNames new
-
 pub with_text-there : (old : List (List ℕ)) (text : List ℕ) → list_any (bytes_eq text) old ≡ true → with_text old text ≡ old
 with_text-there old text h = ap (λ b. cond b old (old ++ text ∷ [])) h
 
