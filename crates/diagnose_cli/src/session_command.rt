@@ -21,6 +21,7 @@ use crate::session_rows::{Plan, RowTeller};
 use crate::speaking::Speaking;
 use alarm_session::Session;
 use des_base::{Memory, Sink};
+use endings::Kind;
 use indep::Indep;
 use inquiries::{NetworkSearch, set_up};
 use log_order::AlarmLog;
@@ -58,8 +59,8 @@ impl Speaking for SessionCommand {
         size
     }
 
-    fn status(_told: ()) -> u8 {
-        0
+    fn kind_of(_told: ()) -> Kind {
+        Kind::Done
     }
 
     fn tell<S: Sink>(

@@ -8,7 +8,6 @@ ghost use Rattle.diagnose_cli.specs.Outcomes.{status_of_telling};
 ghost use Rattle.diagnose_cli.specs.Rows.{Leaves, LeftBy};
 ghost use Rattle.diagnose_cli.specs.Run.{AsksNone, LoadsNone, SaysStop};
 ghost use Rattle.diagnose_cli.specs.Tasks.{AreWords, Speech, speaking};
-ghost use Rattle.endings.specs.Endings.{status_of_kind};
 ghost use Rattle.endings.specs.Files.{loads};
 ghost use Rattle.endings.specs.Puts.{Speaks};
 ghost use Rattle.endings.specs.Texts.{FileKind};
@@ -18,7 +17,7 @@ ghost use Rattle.telling.specs.Telling.{RisesExactlyIf};
 use crate::command::Limits;
 use crate::reading::Reading;
 use des_base::{Shelf, Sink, WordList};
-use endings::{Stop, put_once};
+use endings::{Kind, Stop, put_once, status_of_kind};
 use least_faults::MOST_SIZE;
 use proof_ledger::Ledger;
 use std::alloc::Global;
@@ -58,9 +57,9 @@ pub trait Speaking {
         ensures is { result ≡ sized files.now limits }
         ensures asked { (texts : List (List ℕ)) → Self.Files.reads texts files.now → (speech limits).size texts ≡ Some result };
 
-    /// The status of what it tells in all.
-    fn status(told: Self::Told) -> u8
-        ensures { result ≡ status_of_kind (kind told) };
+    /// The kind of an outcome.
+    fn kind_of(told: Self::Told) -> Kind
+        ensures { result ≡ kind told };
 
     /// Tells over its files, where its question isn't too large.
     fn tell<S: Sink>(
@@ -137,7 +136,7 @@ fn status_of<C: Speaking>(told: Result<C::Told, Broken>) -> u8
     ensures { result ≡ status_of_telling C.kind told }
 {
     match told {
-        Ok(told) => C::status(told),
+        Ok(told) => status_of_kind(C::kind_of(told)),
         Err(Broken::Memory) => 9,
         Err(Broken::Put) => 4,
     }

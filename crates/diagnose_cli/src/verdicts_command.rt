@@ -8,6 +8,7 @@ ghost use Rattle.replay.specs.QuestionSize.{question_size};
 use crate::command::Limits;
 use crate::speaking::Speaking;
 use des_base::Sink;
+use endings::Kind;
 use inquiries::Case;
 use proof_ledger::Ledger;
 use sizing::question_size;
@@ -40,13 +41,13 @@ impl Speaking for VerdictsCommand {
         question_size(&files.net, &files.log, limits.steps)
     }
 
-    fn status(told: Told) -> u8 {
+    fn kind_of(told: Told) -> Kind {
         match told {
-            Told::Judged(true) => 11,
-            Told::Judged(false) => 0,
-            Told::NotExplained => 10,
-            Told::TooMany => 12,
-            Told::NotDecided => 11,
+            Told::Judged(true) => Kind::Undecided,
+            Told::Judged(false) => Kind::Done,
+            Told::NotExplained => Kind::Absent,
+            Told::TooMany => Kind::Many,
+            Told::NotDecided => Kind::Undecided,
         }
     }
 

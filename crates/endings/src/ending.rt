@@ -96,7 +96,8 @@ fn told(alloc: Global, ending: Result<Reply, Stop>) -> Result<(u8, Vec<u8>), Mem
     }
 }
 
-fn status_of_kind(kind: Kind) -> u8
+/// The exit status of a reply of this kind.
+pub fn status_of_kind(kind: Kind) -> u8
     ensures { result ≡ status_of_kind kind }
 {
     match kind {

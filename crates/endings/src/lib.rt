@@ -14,7 +14,7 @@ mod ending;
 mod files;
 mod stop;
 
-pub use ending::{Kind, Reply, put_once};
+pub use ending::{Kind, Reply, put_once, status_of_kind};
 pub use files::{
     fetch_checked, fetch_cnf, fetch_costs, fetch_log, fetch_model, fetch_run, fetch_script,
 };
