@@ -15,4 +15,3 @@ mod Answering
 mod Halving
 mod Finding
 mod Rounds
-pub mod SameCosts

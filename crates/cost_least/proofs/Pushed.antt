@@ -41,6 +41,10 @@ elsewhere cost n answer e apart = by (e == n) (eqb_tells e n)
     by true (inr (f, is)) = cc
     by false told = refl
 
+yes_no : (b : Bool) → b ≡ true → b ≡ false → ⊥
+yes_no true h k = cc
+yes_no false h k = cc
+
 -- the inputs of each event
 abbrev each : Grid → (ℕ → ℕ) → ℕ → List Weighted
 each grid cost e = event_weights grid (cost e) e
@@ -51,27 +55,25 @@ faults_below net n = filter (is_fault net) (numbers_below n)
 
 module _ {C : Type 0} (answers : C → ℕ → ℕ → Type 0) (stored : C) (net : Net) (grid : Grid) where
   pub pushed_none : (old : List Weighted) → HasPushed answers stored net grid 0 old old
-  pushed_none old = record { cost = λ e. 0; answered = λ e less fault. absurd (omega (arith, less)); whole = sym (append-nil old) }
+  pushed_none old = record { cost = λ e. 1; answered = λ e less fault. absurd (omega (arith, less)); others = λ e none. refl; whole = sym (append-nil old) }
 
   pub pushed_other : (n : ℕ) (old new : List Weighted) → HasPushed answers stored net grid n old new → is_fault net n ≡ false → HasPushed answers stored net grid (n + 1) old new
   pushed_other n old new pushed none = record {
     cost = pushed.cost;
     answered = λ e less fault. by e less fault (cases_eq e n);
+    others = pushed.others;
     whole = pushed.whole ∙ ap (λ xs. old ++ flat_map (λ e. event_weights grid (pushed.cost e) e) xs) (sym (filter_numbers_no (is_fault net) n none));
   }
     where
-      differs : (b : Bool) → b ≡ true → b ≡ false → ⊥
-      differs true h k = cc
-      differs false h k = cc
-
       by : (e : ℕ) → e < n + 1 → is_fault net e ≡ true → (e ≡ n) ⊎ (e ≢ n) → answers stored e (pushed.cost e)
-      by e less fault (inl same) = absurd (differs (is_fault net n) (subst (λ k. is_fault net k ≡ true) same fault) none)
+      by e less fault (inl same) = absurd (yes_no (is_fault net n) (subst (λ k. is_fault net k ≡ true) same fault) none)
       by e less fault (inr apart) = pushed.answered e (omega (arith, less, apart)) fault
 
   pub pushed_fault : (n answer : ℕ) (old mid new : List Weighted) → HasPushed answers stored net grid n old mid → is_fault net n ≡ true → answers stored n answer → new ≡ mid ++ event_weights grid answer n → HasPushed answers stored net grid (n + 1) old new
   pushed_fault n answer old mid new pushed fault answered adds = record {
     cost = with_cost pushed.cost n answer;
     answered = λ e less is. by e less is (cases_eq e n);
+    others = λ e none. elsewhere pushed.cost n answer e (λ is. yes_no (is_fault net n) fault (subst (λ k. is_fault net k ≡ false) is none)) ∙ pushed.others e none;
     whole =
         adds ∙ ap (λ xs. xs ++ event_weights grid answer n) pushed.whole
         ∙ append_assoc old (flat_map (each grid pushed.cost) (faults_below net n)) (event_weights grid answer n)
@@ -98,6 +100,7 @@ pub inputs_pushed : {C : Type 0} (answers : C → ℕ → ℕ → Type 0) (store
 inputs_pushed answers stored net steps code grid start mid new false_lits same on_grid none pushed read adds = record {
   cost = pushed.cost;
   answered = pushed.answered;
+  others = pushed.others;
   weighted = record {
     false_lits = false_lits;
     whole = adds ∙ ap (λ xs. xs ++ map weighs_one false_lits) (pushed.whole ∙ ap (λ (xs : List Weighted). xs ++ fault_weights net grid pushed.cost) none ∙ ap (λ (gr : Grid). fault_weights net gr pushed.cost) on_grid ∙ ap (λ m. fault_weights m (code_grid steps) pushed.cost) (sym same));

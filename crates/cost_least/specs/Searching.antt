@@ -21,7 +21,7 @@ use Rattle.sat_solve.specs.Searching.{IsAnswer, IsPutFor}
 use Rattle.sat_solve.specs.declared.answer.Answer.{Answer}
 use Rattle.cost_least.specs.Asking.{RulesOut}
 use Rattle.cost_least.specs.Answers.{CostAsked, FinalsNegateCosts, PoseCostQuestion, IsPriced, Needs, IsCheapFound, HasConflictOf, IsCostAnswered, IsCostLeftOpen}
-use Rattle.cost_least.specs.Weighed.{AreWeighed, AreWeighedParts, AreWeightedInputs, KeepsCode, assumed_at}
+use Rattle.cost_least.specs.Weighed.{IsOneElsewhere, AreWeighed, AreWeighedParts, AreWeightedInputs, KeepsCode, assumed_at}
 use Rattle.answers.specs.declared.cheap.Cheap.{Cheap}
 use Rattle.answers.specs.declared.cheap.Priced.{Priced}
 
@@ -38,6 +38,7 @@ asked_of net cost log parts = record { net = net; cost = cost; log = log; steps 
 pub record AreAsked {R C : Type 0} (may : R → ℕ → Type 0) (gives : R → ℕ → ℕ → Type 0) (answers : C → ℕ → ℕ → Type 0) (stored : C) (net : Net) (parts : Parts R) (scale : Scale) (book : List BookEntry) : Type 0 where
   pub cost : ℕ → ℕ
   pub answered : GivesCosts answers stored net cost
+  pub others : IsOneElsewhere net cost
   pub weighed : AreWeighed may gives cost parts scale book
 
 -- with whatever costs the parts have the scale, they have it still
@@ -91,6 +92,7 @@ pub record HasFoundCost (q : CostAsked) (budget : ℕ) (old new : List BookEntry
 pub record HasAnsweredCosts {R C : Type 0} (answers : C → ℕ → ℕ → Type 0) (stored : C) (net : Net) (log : Log) (parts : Parts R) (budget : ℕ) (old new : List BookEntry) (cheap : Cheap) : Type 0 where
   pub cost : ℕ → ℕ
   pub answered : GivesCosts answers stored net cost
+  pub others : IsOneElsewhere net cost
   pub means : IsCostAnswered (asked_of net cost log parts) budget old new cheap
   pub scale : Scale
   pub weighed : AreWeighedParts cost parts.step parts.code.coded parts.counter parts.vars (axioms_of new) scale
@@ -114,6 +116,7 @@ pub record HasRefusedCosts (q : CostAsked) (old new : List BookEntry) : Type 0 w
 pub record IsLeftWeighed {R C : Type 0} (answers : C → ℕ → ℕ → Type 0) (stored : C) (net : Net) (log : Log) (parts : Parts R) (budget : ℕ) (old new : List BookEntry) : Type 0 where
   pub cost : ℕ → ℕ
   pub answered : GivesCosts answers stored net cost
+  pub others : IsOneElsewhere net cost
   pub unanswered : IsCostLeftOpen (asked_of net cost log parts) budget old new
   pub scale : Scale
   pub weighed : AreWeighedParts cost parts.step parts.code.coded parts.counter parts.vars (axioms_of new) scale

@@ -1,5 +1,5 @@
 -- The parts of a question with a scale beside them that weighs its faults, as they stand beside their book.
-use Rattle.std.specs.Prelude.{◌≡◌, ℕ, ◌+◌, ◌*◌, ◌<◌, ◌≤◌, true, List, ◌++◌, map, filter, flat_map, length, Option}
+use Rattle.std.specs.Prelude.{◌≡◌, ℕ, ◌+◌, ◌*◌, ◌<◌, ◌≤◌, true, false, List, ◌++◌, map, filter, flat_map, length, Option}
 use Rattle.card_counter.specs.CounterState.{CounterState}
 use Rattle.des_base.specs.Lists.{numbers_below}
 use Rattle.des_net.specs.Network.{Net, IsNetwork, is_fault}
@@ -46,16 +46,22 @@ pub record AreWeightedInputs (steps : CodedSteps) (code : CodedLog) (cost : ℕ 
   pub whole : inputs ≡ fault_weights steps.net (code_grid steps) cost ++ map weighs_one false_lits
   pub read : AreFalseLiterals code false_lits
 
+-- what is no fault event costs 1 by it, so that there is one such function for what a closure answers on the fault events
+abbrev pub IsOneElsewhere : Net → (ℕ → ℕ) → Type 0
+IsOneElsewhere net cost = (e : ℕ) → is_fault net e ≡ false → cost e ≡ 1
+
 -- The inputs are those with some costs that a stored closure answers.
 pub record HasInputs {C : Type 0} (answers : C → ℕ → ℕ → Type 0) (stored : C) (net : Net) (steps : CodedSteps) (code : CodedLog) (inputs : List Weighted) : Type 0 where
   pub cost : ℕ → ℕ
   pub answered : GivesCosts answers stored net cost
+  pub others : IsOneElsewhere net cost
   pub weighted : AreWeightedInputs steps code cost inputs
 
 -- Fault events below a number were put, each in all steps, with costs that a stored closure answers.
 pub record HasPushed {C : Type 0} (answers : C → ℕ → ℕ → Type 0) (stored : C) (net : Net) (grid : Grid) (number : ℕ) (old new : List Weighted) : Type 0 where
   pub cost : ℕ → ℕ
   pub answered : (e : ℕ) → e < number → is_fault net e ≡ true → answers stored e (cost e)
+  pub others : IsOneElsewhere net cost
   pub whole : new ≡ old ++ flat_map (λ e. event_weights grid (cost e) e) (filter (is_fault net) (numbers_below number))
 
 -- ---- the parts

@@ -1,5 +1,5 @@
 -- What `cheapest` answers where its files are read.
-use Rattle.std.proofs.Common.{◌≡◌, ◌≢◌, ◌^◌, ◌∙◌, [], ◌∷◌, ap, sym, inr, ◌≤◌, ℕ, List, Option, Some, Result, arith}
+use Rattle.std.proofs.Common.{◌≡◌, ◌≢◌, ◌^◌, ◌∙◌, [], ◌∷◌, ap, sym, inr, ◌≤◌, ℕ, List, Option, Some, Result, arith, subst}
 use Rattle.cost_least.specs.Costs.{cost_size}
 use Rattle.cost_least.specs.Answers.{CostAsked, IsCheapFound, IsRunAt}
 use Rattle.answers.specs.declared.cheap.Cheap.{Cheap}
@@ -9,8 +9,8 @@ use Rattle.des_net.specs.Network.{Net, IsNetwork}
 use Rattle.event_costs.specs.CostText.{IsTableOf, cost_of}
 use Rattle.event_costs.specs.Prices.{cost_at}
 use Rattle.inquiries.specs.declared.question.Case.{Case}
-use Rattle.pricing.specs.LeastCost.{CostAlike, IsPricedBy, LeavesCosts, cost_variables}
-use Rattle.pricing.proofs.PricedBooks.{leaves_alike, priced_alike, unpriced_is_small}
+use Rattle.pricing.specs.LeastCost.{IsPricedBy, LeavesCosts, cost_variables}
+use Rattle.pricing.proofs.PricedBooks.{unpriced_is_small}
 use Rattle.least_faults.proofs.KnownEvents.{run_known}
 use Rattle.log_csv.specs.LogText.{log_of}
 use Rattle.log_order.specs.Adding.{IsLog}
@@ -66,17 +66,12 @@ cheap_said net log n answer network drafted logged few cost budget book priced r
 
 -- ---- the costs of the text
 
--- the table costs each event as the text does
-pub as_text : (net : Net) (prices : List ℕ) (table : List (Option ℕ)) → IsTableOf net prices table → CostAlike net (cost_at table) (cost_of net prices)
-as_text net prices table of = λ e fault. of.each e
+-- the table costs each event as the text does, so both are one function
+pub as_text : (net : Net) (prices : List ℕ) (table : List (Option ℕ)) → IsTableOf net prices table → cost_at table ≡ cost_of net prices
+as_text net prices table of = λ i e. of.each e i
 
 says_of_text : (net : Net) (prices : List ℕ) (table : List (Option ℕ)) (alarms : Log) (n budget : ℕ) (book : List BookEntry) (reply : Reply) → IsTableOf net prices table → SaysCheap net (cost_at table) alarms n budget book reply → SaysCheap net (cost_of net prices) alarms n budget book reply
-says_of_text net prices table alarms n budget book reply of says = record {
-  answer = says.answer;
-  priced = priced_alike net (cost_at table) (cost_of net prices) (as_text net prices table of) alarms n budget book says.answer says.priced;
-  again = says.again;
-  is = says.is;
-}
+says_of_text net prices table alarms n budget book reply of = subst (λ (c : ℕ → ℕ). SaysCheap net c alarms n budget book reply) (as_text net prices table of)
 
 -- a budget that is large enough decides
 module _ (net : Net) (cost : ℕ → ℕ) (alarms : Log) (n budget : ℕ) (book : List BookEntry) where
@@ -107,4 +102,4 @@ module _ (n budget : ℕ) (words : List (List ℕ)) (book : List BookEntry) (cas
   pub prices_left : LeavesCosts case.net (cost_at table) case.log n budget book → Leaves (told_once priced) words texts book
   prices_left =
       over_third (λ ts. Leaves (told_once priced) words ts book) texts (λ net log. LeavesCosts net (cost_at table) log n budget book) (λ net prices t. IsTableOf net prices t) table
-      (λ text alarms prices of h same. inr (leaves_alike (network_of text) (cost_at table) (cost_of (network_of text) prices) (as_text (network_of text) prices table of) (log_of alarms) n budget book h)) case read
+      (λ text alarms prices of h same. inr (subst (λ (c : ℕ → ℕ). LeavesCosts (network_of text) c (log_of alarms) n budget book) (as_text (network_of text) prices table of) h)) case read

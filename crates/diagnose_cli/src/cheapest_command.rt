@@ -1,5 +1,6 @@
 // The command `cheapest`: the least total cost of what explains a log.
 ghost use Rattle.std.specs.Prelude.{◌≡◌, ◌≤◌, ℕ, List, [], length, IfOk, refl};
+ghost use Rattle.cost_least.specs.Weighed.{IsOneElsewhere};
 ghost use Rattle.des_base.specs.declared.TheConstants.{MOST_STEPS};
 ghost use Rattle.diagnose_cli.specs.CheapReplies.{SaysCheap, kind_of_cheap, reply_of_cheap};
 ghost use Rattle.diagnose_cli.specs.Commands.{cheapest};
@@ -78,6 +79,7 @@ fn reply_to_costs(
     book: &mut Ledger,
 ) -> Result<Reply, Memory>
     requires long { length table.now ≡ length case.now.net.events }
+    requires others { IsOneElsewhere case.now.net (cost_at table.now) }
     requires within { IsWithinCosts case.now.net case.now.log limits.steps }
     requires empty { book.old.entries ≡ [] }
     ensures says { IfOk result (SaysCheap case.now.net (cost_at table.now) case.now.log limits.steps limits.budget book.new.entries) }

@@ -1,12 +1,10 @@
 -- The book that a question of costs leaves, as a whole.
-use Rattle.std.proofs.Common.{◌≡◌, ◌∙◌, ◌<◌, ◌≤◌, ◌+◌, ◌*◌, ◌^◌, inl, inr, ℕ, true, List, [], ◌∷◌, ◌++◌, map, Option, sym, ap, subst, arith, Contains, count_by}
+use Rattle.std.proofs.Common.{◌≡◌, ◌∙◌, ◌<◌, ◌≤◌, ◌+◌, ◌*◌, ◌^◌, ℕ, true, List, [], ◌∷◌, ◌++◌, map, Option, sym, ap, subst, arith, Contains, count_by}
 use Rattle.std.specs.List.{AllByRecursion, list_any}
 use Rattle.std.proofs.Math.Nat.{pow-le-pow_right}
 use Rattle.std.proofs.lemmas.List.FromFn.{length-range_with_len}
 use Rattle.cost_least.proofs.Fitting.{first_few, inputs_below, inputs_counted}
-use Rattle.cost_least.proofs.SameCosts.{same_answered, same_open, same_parts}
 use Rattle.cost_least.specs.Weighed.{AreWeighedParts}
-use Rattle.answers.specs.declared.cheap.Cheap.{Cheap}
 use Rattle.answers.specs.declared.cheap.Cheap.TheVariants.{Undecided}
 use Rattle.answers.specs.declared.cheap.Priced.{Priced}
 use Rattle.card_counter.specs.CounterState.{CounterState}
@@ -17,7 +15,6 @@ use Rattle.des_net.specs.QuestionSize.{fault_event_count}
 use Rattle.least_faults.proofs.Below.{axioms_below}
 use Rattle.least_faults.proofs.FreshCount.{fresh_below}
 use Rattle.least_faults.specs.Bounds.{question_variables}
-use Rattle.inquiries.specs.Begun.{unasked_book}
 use Rattle.log_encode.specs.CodedLog.{CodedLog}
 use Rattle.log_order.specs.Log.{Log}
 use Rattle.proof_ledger.specs.Book.{BookEntry, axiomatic, mark, axioms_of}
@@ -30,39 +27,10 @@ use Rattle.step_encode.specs.Coded.{CodedSteps}
 use Rattle.weight_counter.proofs.Small.{scales_are_small}
 use Rattle.weight_counter.specs.Scales.{place_variable, scale_clauses}
 use Rattle.weight_counter.specs.declared.scale.Scale.{Scale}
-use Rattle.pricing.specs.LeastCost.{CostAlike, HasCostQuestion, IsPricedBy, LeavesCosts, cost_variables}
+use Rattle.pricing.specs.LeastCost.{HasCostQuestion, IsPricedBy, cost_variables}
 use Rattle.proof_ledger.proofs.AxiomLists.{axioms_between}
 use Rattle.prop_core.proofs.Literals.{below_var, wider}
 use Rattle.question_clauses.proofs.Lists.{in_numbers}
-
--- ---- with costs that the fault events have alike
-
-question_alike : (net : Net) (a b : ℕ → ℕ) (alike : CostAlike net a b) (log : Log) (n : ℕ) (book : List BookEntry) → HasCostQuestion net a log n book → HasCostQuestion net b log n book
-question_alike net a b alike log n book h = record {
-  belong = h.belong;
-  of_steps = h.of_steps;
-  vars = h.vars;
-  scale = h.scale;
-  weighed = same_parts net a b alike _ _ _ h.vars (axioms_of book) h.scale h.belong.of_steps h.weighed;
-}
-
-pub priced_alike : (net : Net) (a b : ℕ → ℕ) (alike : CostAlike net a b) (log : Log) (n budget : ℕ) (book : List BookEntry) (answer : Cheap) → IsPricedBy net a log n budget book answer → IsPricedBy net b log n budget book answer
-priced_alike net a b alike log n budget book answer h = record {
-  answered = same_answered net a b alike log n budget (map axiomatic (question_axioms net log n 0)) book answer h.answered;
-  question = question_alike net a b alike log n book h.question;
-  valid = h.valid;
-}
-
-pub leaves_alike : (net : Net) (a b : ℕ → ℕ) (alike : CostAlike net a b) (log : Log) (n budget : ℕ) (book : List BookEntry) → LeavesCosts net a log n budget book → LeavesCosts net b log n budget book
-leaves_alike net a b alike log n budget book (inl empty) = inl empty
-leaves_alike net a b alike log n budget book (inr (inl (inl unasked))) = inr (inl (inl unasked))
-leaves_alike net a b alike log n budget book (inr (inl (inr (inl opened)))) = inr (inl (inr (inl opened)))
-leaves_alike net a b alike log n budget book (inr (inl (inr (inr h)))) = inr (inl (inr (inr (record {
-  unanswered = same_open net a b alike log n budget (unasked_book net log n) book h.unanswered;
-  question = question_alike net a b alike log n book h.question;
-  valid = h.valid;
-}))))
-leaves_alike net a b alike log n budget book (inr (inr (answer, h))) = inr (inr (answer, priced_alike net a b alike log n budget book answer h))
 
 -- ---- variables below a number
 

@@ -1,12 +1,12 @@
 -- What is found of the least total, by costs that a table holds.
-use Rattle.std.proofs.Common.{◌≡◌, ◌∙◌, inl, inr, ℕ, List, [], ◌∷◌, ◌++◌, map, Option, Result, Ok, Err, IfOk, OnErr, ap, subst, sym}
+use Rattle.std.proofs.Common.{◌≡◌, ◌∙◌, ◌<◌, inl, inr, ℕ, zero, suc, Bool, true, false, List, [], ◌∷◌, ◌++◌, length, map, Option, Result, Ok, Err, IfOk, OnErr, refl, ap, subst, sym, arith}
 use Rattle.card_counter.specs.CounterState.{CounterState}
-use Rattle.cost_least.proofs.SameCosts.{fault_known, same_answered, same_open, same_parts}
 use Rattle.cost_least.specs.Answers.{CostAsked, IsCostAnswered, IsCostLeftOpen}
 use Rattle.cost_least.specs.Searching.{HasAnsweredCosts, IsLeftWeighed, LeavesUnpriced}
-use Rattle.cost_least.specs.Weighed.{AreWeighedParts, KeepsCode}
+use Rattle.cost_least.specs.Weighed.{AreWeighedParts, IsOneElsewhere, KeepsCode}
 use Rattle.answers.specs.declared.cheap.Cheap.{Cheap}
-use Rattle.des_net.specs.Network.{Net}
+use Rattle.des_net.specs.Network.{Event, Net, is_fault, no_event}
+use Rattle.std.specs.Prelude.{slice_index_or}
 use Rattle.des_base.specs.declared.memory.Memory.{Memory}
 use Rattle.event_costs.specs.Prices.{cost_at}
 use Rattle.event_costs.specs.StoredCosts.{GivesCosts}
@@ -20,11 +20,20 @@ use Rattle.run_decode.specs.QuestionAxioms.{BuiltQuestion, question_axioms, ques
 use Rattle.step_encode.specs.Coded.{CodedSteps}
 use Rattle.weight_counter.specs.declared.scale.Scale.{Scale}
 use Rattle.inquiries.specs.Begun.{HasBegun, unasked_book}
-use Rattle.pricing.specs.LeastCost.{AnswersTable, CostAlike, HasCostQuestion, IsPricedBy, LeavesCosts, StaysUnpriced}
+use Rattle.pricing.specs.LeastCost.{AnswersTable, HasCostQuestion, IsPricedBy, LeavesCosts, StaysUnpriced}
 use Rattle.inquiries.proofs.Diagnosing.{question_begins}
 
+-- only an event of the network is a fault
+fault_known : (net : Net) (e : ℕ) → is_fault net e ≡ true → e < length net.events
+fault_known net e fault = go net.events e fault
+  where
+    go : (events : List Event) (e : ℕ) → (slice_index_or events e no_event).fault ≡ true → e < length events
+    go [] e h = cc
+    go (x ∷ events) zero h = omega arith
+    go (x ∷ events) (suc e) h = let later = go events e h in omega (arith, later)
+
 module _ {R C : Type 0} (may : R → ℕ → Type 0) (gives : R → ℕ → ℕ → Type 0) (answers : C → ℕ → ℕ → Type 0) (stored : C) (net : Net) (log : Log) (parts later : Parts R) (budget : ℕ) (old new : List BookEntry) (table : List (Option ℕ))
-    (begun : HasBegun may gives net log parts old) (kept : KeepsCode parts later) (by_table : AnswersTable answers stored net table) where
+    (begun : HasBegun may gives net log parts old) (kept : KeepsCode parts later) (by_table : AnswersTable answers stored net table) (others : IsOneElsewhere net (cost_at table)) where
   built : built_of parts old ≡ question_built net log parts.step.steps 0
   built = question_begins net log parts.step.steps parts old begun.columns begun.parts_of.built
 
@@ -32,14 +41,18 @@ module _ {R C : Type 0} (may : R → ℕ → Type 0) (gives : R → ℕ → ℕ 
   asked cost n = record { net = net; cost = cost; log = log; steps = n }
 
   -- by costs that the stored closure answers
-  module _ (cost : ℕ → ℕ) (answered : GivesCosts answers stored net cost) (scale : Scale) (weighed : AreWeighedParts cost later.step later.code.coded later.counter later.vars (axioms_of new) scale) where
-    alike : CostAlike net cost (cost_at table)
-    alike e fault = let known = fault_known net e fault in by_table e (cost e) known (answered e known fault)
+  module _ (cost : ℕ → ℕ) (answered : GivesCosts answers stored net cost) (elsewhere : IsOneElsewhere net cost) (scale : Scale) (weighed : AreWeighedParts cost later.step later.code.coded later.counter later.vars (axioms_of new) scale) where
+    alike : (e : ℕ) (fault : Bool) → is_fault net e ≡ fault → cost e ≡ cost_at table e
+    alike e true fault = let known = fault_known net e fault in by_table e (cost e) known (answered e known fault)
+    alike e false none = elsewhere e none ∙ sym (others e none)
+
+    -- functions with the same values are one
+    costs_are : cost ≡ cost_at table
+    costs_are = λ i e. alike e (is_fault net e) refl i
 
     question : HasCostQuestion net (cost_at table) log parts.step.steps new
     question =
-        let of_net = ap (λ (s : CodedSteps). s.net) kept.step ∙ begun.parts_of.belong.of_steps in
-        let by_costs = same_parts net cost (cost_at table) alike later.step later.code.coded later.counter later.vars (axioms_of new) scale of_net weighed in
+        let by_costs = subst (λ (c : ℕ → ℕ). AreWeighedParts c later.step later.code.coded later.counter later.vars (axioms_of new) scale) costs_are weighed in
         let step = kept.step ∙ ap (λ (q : BuiltQuestion). q.steps) built in
         let code = ap (λ (c : _). c.coded) kept.code ∙ ap (λ (q : BuiltQuestion). q.code) built in
         let counter = kept.counter ∙ ap (λ (q : BuiltQuestion). q.counter) built in
@@ -64,8 +77,8 @@ module _ {R C : Type 0} (may : R → ℕ → Type 0) (gives : R → ℕ → ℕ 
 
   pub priced_by : (cheap : Cheap) → HasAnsweredCosts answers stored net log later budget old new cheap → IsValidBook new → IsPricedBy net (cost_at table) log parts.step.steps budget new cheap
   priced_by cheap found valid = record {
-    answered = same_answered net found.cost (cost_at table) (alike found.cost found.answered found.scale found.weighed) log parts.step.steps budget (map axiomatic (question_axioms net log parts.step.steps 0)) new cheap (means cheap found);
-    question = question found.cost found.answered found.scale found.weighed;
+    answered = subst (λ (c : ℕ → ℕ). IsCostAnswered (asked c parts.step.steps) budget (map axiomatic (question_axioms net log parts.step.steps 0)) new cheap) (costs_are found.cost found.answered found.others found.scale found.weighed) (means cheap found);
+    question = question found.cost found.answered found.others found.scale found.weighed;
     valid = valid;
   }
 
@@ -80,8 +93,8 @@ module _ {R C : Type 0} (may : R → ℕ → Type 0) (gives : R → ℕ → ℕ 
   stays_unpriced (inl same) valid = inl (same ∙ begun.axioms)
   stays_unpriced (inr (inl opened)) valid = inr (inl (opened ∙ ap (λ (b : List BookEntry). b ++ mark 0 ∷ []) begun.axioms))
   stays_unpriced (inr (inr left)) valid = inr (inr (record {
-    unanswered = same_open net left.cost (cost_at table) (alike left.cost left.answered left.scale left.weighed) log parts.step.steps budget (unasked_book net log parts.step.steps) new (stays left);
-    question = question left.cost left.answered left.scale left.weighed;
+    unanswered = subst (λ (c : ℕ → ℕ). IsCostLeftOpen (asked c parts.step.steps) budget (unasked_book net log parts.step.steps) new) (costs_are left.cost left.answered left.others left.scale left.weighed) (stays left);
+    question = question left.cost left.answered left.others left.scale left.weighed;
     valid = valid;
   }))
 

@@ -1,11 +1,11 @@
 -- A question of costs: what is found of the least total, and what stays of it in the book.
-use Rattle.std.specs.Prelude.{◌≡◌, ◌⊎◌, ◌<◌, ◌≤◌, ◌+◌, ◌*◌, ℕ, true, List, [], ◌∷◌, ◌++◌, length, map, Option}
+use Rattle.std.specs.Prelude.{◌≡◌, ◌⊎◌, ◌<◌, ◌≤◌, ◌+◌, ◌*◌, ℕ, List, [], ◌∷◌, ◌++◌, length, map, Option}
 use Rattle.cost_least.specs.Answers.{IsCostAnswered, IsCostLeftOpen}
 use Rattle.cost_least.specs.Costs.{cost_size}
-use Rattle.cost_least.specs.Weighed.{AreWeighedParts}
+use Rattle.cost_least.specs.Weighed.{AreWeighedParts, IsOneElsewhere}
 use Rattle.answers.specs.declared.cheap.Cheap.{Cheap}
 use Rattle.des_base.specs.declared.TheConstants.{MOST_STEPS}
-use Rattle.des_net.specs.Network.{Net, is_fault}
+use Rattle.des_net.specs.Network.{Net}
 use Rattle.des_net.specs.QuestionSize.{fault_event_count}
 use Rattle.event_costs.specs.Prices.{cost_at}
 use Rattle.event_costs.specs.declared.TheConstants.{MOST_COST}
@@ -25,19 +25,16 @@ pub record IsWithinCosts (net : Net) (log : Log) (n : ℕ) : Type 0 where
   pub steps : n ≤ MOST_STEPS
   pub size : cost_size net log n ≤ MOST_SIZE
 
--- so the question itself isn't, and the table has a place for each event
+-- so the question itself isn't; the table has a place for each event, and 1 for what is no fault
 pub record MayPrice (table : List (Option ℕ)) (net : Net) (log : Log) (n : ℕ) : Type 0 where
   pub limits : IsWithinLimits net log n
   pub costs : IsWithinCosts net log n
   pub long : length table ≡ length net.events
+  pub others : IsOneElsewhere net (cost_at table)
 
 -- a stored closure answers on the number of each event what a table holds for it
 abbrev pub AnswersTable : {C : Type 0} → (C → ℕ → ℕ → Type 0) → C → Net → List (Option ℕ) → Type 0
 AnswersTable answers stored net table = (e answer : ℕ) → e < length net.events → answers stored e answer → answer ≡ cost_at table e
-
--- both cost the fault events alike
-abbrev pub CostAlike : Net → (ℕ → ℕ) → (ℕ → ℕ) → Type 0
-CostAlike net one other = (e : ℕ) → is_fault net e ≡ true → one e ≡ other e
 
 -- The axioms of the book are those of the question without columns, and then the clauses of a scale over its faults, each with its cost.
 pub record HasCostQuestion (net : Net) (cost : ℕ → ℕ) (log : Log) (n : ℕ) (book : List BookEntry) : Type 0 where

@@ -1,5 +1,6 @@
 // The least total cost of what explains a log, when fault events have costs, as an inquiry.
 ghost use Rattle.std.specs.Prelude.{◌≡◌, ℕ, List, length, IfOk, Option};
+ghost use Rattle.cost_least.specs.Weighed.{IsOneElsewhere};
 ghost use Rattle.event_costs.specs.Prices.{cost_at};
 ghost use Rattle.event_costs.specs.StoredCosts.{IsCost};
 ghost use Rattle.inquiries.specs.Begun.{HasBegun};
@@ -56,6 +57,7 @@ fn price<R: Fn(u32) -> u64>(
     requires begun { HasBegun R.pre R.post case.now.net case.now.log parts.old book.old.entries }
     requires limits { IsWithinCosts case.now.net case.now.log parts.old.step.steps }
     requires long { length table.now ≡ length case.now.net.events }
+    requires others { IsOneElsewhere case.now.net (cost_at table.now) }
     ensures priced { IfOk result (IsPricedBy case.now.net (cost_at table.now) case.now.log parts.old.step.steps budget book.new.entries) }
     ensures left { LeavesCosts case.now.net (cost_at table.now) case.now.log parts.old.step.steps budget book.new.entries }
 {
@@ -76,8 +78,8 @@ fn price_by<C: Fn(u32) -> u32, R: Fn(u32) -> u64>(
     requires net { costs.now.net ≡ case.now.net }
     requires begun { HasBegun R.pre R.post case.now.net case.now.log parts.old book.old.entries }
     requires limits { IsWithinCosts case.now.net case.now.log parts.old.step.steps }
-    ensures priced { (table : List (Option ℕ)) → AnswersTable C.post costs.now.cost case.now.net table → IfOk result (IsPricedBy case.now.net (cost_at table) case.now.log parts.old.step.steps budget book.new.entries) }
-    ensures left { (table : List (Option ℕ)) → AnswersTable C.post costs.now.cost case.now.net table → LeavesCosts case.now.net (cost_at table) case.now.log parts.old.step.steps budget book.new.entries }
+    ensures priced { (table : List (Option ℕ)) → AnswersTable C.post costs.now.cost case.now.net table → IsOneElsewhere case.now.net (cost_at table) → IfOk result (IsPricedBy case.now.net (cost_at table) case.now.log parts.old.step.steps budget book.new.entries) }
+    ensures left { (table : List (Option ℕ)) → AnswersTable C.post costs.now.cost case.now.net table → IsOneElsewhere case.now.net (cost_at table) → LeavesCosts case.now.net (cost_at table) case.now.log parts.old.step.steps budget book.new.entries }
 {
     let cheap = cheapest(alloc, &case.net, &case.log, parts, costs, book, budget);
     book.entries();

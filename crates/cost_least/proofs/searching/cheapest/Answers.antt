@@ -64,6 +64,7 @@ returns-clause-answered g c =
     let now = c.search.new.parts in record {
       cost = asked.cost;
       answered = asked.answered;
+      others = asked.others;
       means = answered (asked_of c.args.net.now asked.cost c.args.log.now c.search.new.parts) c.args.budget c.args.book.now.entries c.put_mark.new.self.entries c.weigh.new.book.entries c.search.new.book.entries c.put_mark-2.new.self.entries c.in_ok-cheap.cheap
           (ap (λ (b : LedgerState). b.entries) c.in_ok-put_mark.ensures.added) c.weigh.ensures.axioms (ap (λ (b : LedgerState). b.entries) c.in_ok-put_mark-2.ensures.added)
           (c.in_ok-cheap.ensures.found asked.cost asked.answered asked.weighed);
@@ -87,6 +88,7 @@ returns-in_err-cheap-clause-unanswered g c =
     on_err _ _ (inr (inr (record {
       cost = asked.cost;
       answered = asked.answered;
+      others = asked.others;
       unanswered = left_open (asked_of c.args.net.now asked.cost c.args.log.now now) c.args.budget c.search.new.budget c.args.book.now.entries c.put_mark.new.self.entries c.weigh.new.book.entries c.search.new.book.entries
           (ap (λ (b : LedgerState). b.entries) c.in_ok-put_mark.ensures.added) c.weigh.ensures.axioms c.search.ensures.goes_on.searching (c.in_err-cheap.ensures.quit asked.cost asked.answered asked.weighed);
       scale = c.in_ok-scale.scale;
@@ -100,6 +102,7 @@ returns-in_err-put_mark-2-clause-unanswered g c =
     on_err _ _ (subst (λ (b : LedgerState). LeavesUnpriced (goal.C-post g) c.args.costs.now.cost c.args.net.now c.args.log.now now c.args.budget c.args.book.now.entries b.entries) (sym c.in_err-put_mark-2.ensures.err) (inr (inr (record {
       cost = asked.cost;
       answered = asked.answered;
+      others = asked.others;
       unanswered = left_open (asked_of c.args.net.now asked.cost c.args.log.now now) c.args.budget c.search.new.budget c.args.book.now.entries c.put_mark.new.self.entries c.weigh.new.book.entries c.search.new.book.entries
           (ap (λ (b : LedgerState). b.entries) c.in_ok-put_mark.ensures.added) c.weigh.ensures.axioms c.search.ensures.goes_on.searching (refused_by _ _ _ _ _ (c.in_ok-cheap.ensures.found asked.cost asked.answered asked.weighed));
       scale = c.in_ok-scale.scale;

@@ -16,7 +16,7 @@ pub ask-requires-clause-steps : goal.ask-requires-clause-steps
 ask-requires-clause-steps g c = subst (λ (s : CodedSteps). s.steps ≤ MOST_STEPS) (sym c.loop-lo.invariant.goes.kept.step) c.requires.steps
 
 pub ask-requires-clause-asked : goal.ask-requires-clause-asked
-ask-requires-clause-asked g c = let own = c.requires.asked in record { cost = own.cost; answered = own.answered; weighed = c.loop-lo.invariant.goes.still own.cost own.weighed }
+ask-requires-clause-asked g c = let own = c.requires.asked in record { cost = own.cost; answered = own.answered; others = own.others; weighed = c.loop-lo.invariant.goes.still own.cost own.weighed }
 
 pub ask-requires-clause-bound : goal.ask-requires-clause-bound
 ask-requires-clause-bound g c =

@@ -29,7 +29,7 @@ pub halve-requires-clause-steps : goal.halve-requires-clause-steps
 halve-requires-clause-steps g c = subst (λ (s : CodedSteps). s.steps ≤ MOST_STEPS) (sym c.ask.ensures.goes_on.kept.step) c.requires.steps
 
 pub halve-requires-clause-asked : goal.halve-requires-clause-asked
-halve-requires-clause-asked g c = let own = c.requires.asked in record { cost = own.cost; answered = own.answered; weighed = c.ask.ensures.goes_on.still own.cost own.weighed }
+halve-requires-clause-asked g c = let own = c.requires.asked in record { cost = own.cost; answered = own.answered; others = own.others; weighed = c.ask.ensures.goes_on.still own.cost own.weighed }
 
 pub halve-requires-clause-known : goal.halve-requires-clause-known
 halve-requires-clause-known g c = λ cost answered.

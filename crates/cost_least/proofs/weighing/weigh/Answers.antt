@@ -34,5 +34,6 @@ returns-clause-weighed g c =
     (λ scale weighed. record {
       cost = inputs.cost;
       answered = inputs.answered;
+      others = inputs.others;
       weighed = weighed inputs.cost (subst (AreWeightedInputs old.step old.code.coded inputs.cost) (sym c.as_slice.ensures.value) inputs.weighted);
     }) c.write_scale.ensures.weighed
