@@ -1,30 +1,27 @@
 -- What a question of costs leaves in the book, and what its answer means.
-use Rattle.std.proofs.Common.{◌≡◌, ◌∙◌, ℕ, ◌+◌, ◌-◌, ◌<◌, ◌≤◌, Bool, List, [], ◌∷◌, ◌++◌, length, Option, None, Some, IfSome, IfOk, Result, Ok, Err, refl, sym, ap, subst, arith, Contains, IsTrue, append_assoc}
-use Rattle.std.proofs.lemmas.List.{append_cancel_left}
-use Rattle.std.proofs.lemmas.List.Elements.{All-append, All-nil, All-cons, Contains-append_right}
+use Rattle.std.proofs.Common.{◌≡◌, ◌∙◌, ℕ, ◌-◌, ◌<◌, ◌≤◌, Bool, List, [], ◌∷◌, length, Option, None, Some, IfSome, IfOk, Result, Ok, Err, refl, sym, subst, arith, IsTrue}
+use Rattle.std.proofs.lemmas.List.Elements.{All-append, All-nil, All-cons}
 use Rattle.card_counter.specs.CounterState.{CounterState, negative}
-use Rattle.des_base.proofs.Elements.{all_split, here_first}
+use Rattle.des_base.proofs.Elements.{all_split}
 use Rattle.des_net.specs.Network.{Net, IsNetwork}
 use Rattle.least_faults.proofs.Asked.{axioms_true, true_run}
-use Rattle.least_faults.proofs.Assuming.{compatible, negates_only, without_bound}
+use Rattle.least_faults.proofs.Assuming.{compatible, without_bound}
 use Rattle.least_faults.proofs.Below.{names_below, read_below}
 use Rattle.least_faults.proofs.Entailing.{final_entailed}
-use Rattle.least_faults.proofs.Putting.{same_last}
 use Rattle.least_faults.proofs.Solved.{CanSearch}
-use Rattle.least_faults.specs.Asking.{IsSearching}
 use Rattle.least_faults.specs.Parts.{BelongTo}
 use Rattle.least_faults.specs.declared.parts.Parts.{Parts}
 use Rattle.question_clauses.specs.LogClauses.{guard_literals}
 use Rattle.log_encode.specs.CodedLog.{CodedLog, read_meanings, without_names}
 use Rattle.log_order.specs.Log.{Log, IsValidLog}
-use Rattle.proof_ledger.specs.Book.{BookEntry, final, axioms_of, IsValidBook}
-use Rattle.prop_core.specs.Clauses.{Clause, HasValues, AllClausesTrue, AllLiteralsTrue, clause_true, literal_true, value_in, NegatesOnly}
+use Rattle.proof_ledger.specs.Book.{BookEntry, axioms_of, IsValidBook}
+use Rattle.prop_core.specs.Clauses.{Clause, HasValues, AllClausesTrue, AllLiteralsTrue, clause_true, literal_true, value_in}
 use Rattle.prop_core.specs.VariableNames.{ReadsAs}
 use Rattle.prop_core.specs.declared.lit.Lit.{Lit}
 use Rattle.run_decode.specs.Decoding.{IsTrueRun}
 use Rattle.run_decode.specs.Faithful.{IsWithin}
 use Rattle.run_decode.specs.WholeNaming.{whole_meanings}
-use Rattle.sat_solve.specs.Searching.{HasAxiomVars, IsAnswer, IsClosedByFinal, IsSearched, HasPut, IsPutFor, IsRefuted}
+use Rattle.sat_solve.specs.Searching.{HasAxiomVars, IsAnswer, IsSearched, HasPut}
 use Rattle.sat_solve.specs.declared.answer.Answer.{Answer}
 use Rattle.sat_solve.specs.declared.answer.Answer.TheVariants as solver
 use Rattle.step_encode.specs.Coded.{CodedSteps}
@@ -45,6 +42,7 @@ use Rattle.answers.specs.declared.cheap.Priced.{Priced}
 use Rattle.cost_least.specs.declared.asking.CostAnswer.{CostAnswer}
 use Rattle.cost_least.specs.declared.asking.CostAnswer.TheVariants.{Explained, Refuted, Spent}
 use Rattle.prop_core.proofs.Literals.{wider}
+use Rattle.sat_solve.proofs.Entries.{last_final_for, put_since}
 
 -- ---- what is assumed
 
@@ -116,28 +114,14 @@ can_search may gives cost parts scale book net log bound slice assumed weighed b
 
 -- ---- what is answered
 
--- what was put is put for the answer
-put_since : (mid new : List BookEntry) (before after : ℕ) (searching : IsSearching mid new before after) (answer : Answer) → HasPut mid new answer → IsPutFor answer searching.since
-put_since mid new before after searching answer put = subst (IsPutFor answer) (append_cancel_left mid put.since searching.since (sym put.whole ∙ searching.whole)) put.put
-
 pub solved : {E : Type 0} (slice items assumed : List Lit) (values : List Bool) (mid new : List BookEntry) (before after : ℕ) (result : Result Answer E) → slice ≡ items → items ≡ assumed → HasAxiomVars mid → IsSearched mid new before after → IfOk result (HasPut mid new) → IfOk result (IsAnswer values new slice after) →
     IfOk result (IsSolvedUnder assumed values mid new before after)
 solved slice items assumed values mid new before after (Err error) same is known searched put says = tt
 solved slice items assumed values mid new before after (Ok answer) same is known searched put says = record {
   searching = searching_of mid new before after searched known;
-  put = put_since mid new before after (searching_of mid new before after searched known) answer put;
+  put = put_since mid new (searching_of mid new before after searched known).since answer (searching_of mid new before after searched known).whole put;
   says = subst (λ (xs : List Lit). IsAnswer values new xs after answer) (same ∙ is) says;
 }
-
--- the last entry is the final one, and negates assumptions alone
-closes : (assumed : List Lit) (old new since : List BookEntry) (number : ℕ) → new ≡ old ++ since → (put : IsClosedByFinal since) → IsRefuted new assumed number → NegatesOnly assumed put.clause × Contains new (final put.clause put.hints)
-closes assumed old new since number whole put refuted = (
-  subst (NegatesOnly assumed) (same_last refuted.earlier (old ++ put.before) refuted.clause put.clause refuted.hints put.hints (sym refuted.last ∙ new_is)) (negates_only assumed refuted.clause refuted.negated),
-  subst (λ xs. Contains xs (final put.clause put.hints)) (sym new_is) (Contains-append_right (old ++ put.before) (final put.clause put.hints ∷ []) (final put.clause put.hints) (here_first (final put.clause put.hints) [] (final put.clause put.hints) refl)),
-)
-  where
-    new_is : new ≡ (old ++ put.before) ++ final put.clause put.hints ∷ []
-    new_is = whole ∙ ap (λ xs. old ++ xs) put.whole ∙ sym (append_assoc old put.before (final put.clause put.hints ∷ []))
 
 module _ {R : Type 0} (may : R → ℕ → Type 0) (gives : R → ℕ → ℕ → Type 0) (cost : ℕ → ℕ) (parts : Parts R) (scale : Scale) (net : Net) (log : Log) (bound : Option ℕ) (old new : List BookEntry) (before after : ℕ) (answer : Answer) (weighed : AreWeighed may gives cost parts scale new) (belong : BelongTo net log parts)
     (network : IsNetwork net) (valid : IsValidLog log) (read : ReadsAs (read_meanings parts.code.coded) (log_guards parts.code.coded) (guard_literals parts.code.coded.net parts.code.coded.log)) (may_bound : IfSome bound (MayBound scale))
@@ -155,11 +139,11 @@ module _ {R : Type 0} (may : R → ℕ → Type 0) (gives : R → ℕ → ℕ �
   pub shown_refuted : (number : ℕ) → answer ≡ solver.Unsat number → IsValidBook new → HasAskedCost (asked_of net cost log parts) parts.code.coded scale bound old new before after Refuted
   shown_refuted number same book =
       let is = given_as (solver.Unsat number) same in
-      let ends = closes (assumed_at parts.code.coded scale bound) old new is.searching.since number is.searching.whole is.put is.says in
+      let ends = last_final_for (assumed_at parts.code.coded scale bound) old new is.searching.since number is.searching.whole is.put is.says in
       let tells = told cost parts.step parts.code.coded parts.counter parts.vars (axioms_of new) scale weighed.coded net log belong.of_steps network valid belong.same_log read bound may_bound in
       with_meaning (solver.Unsat number) is Refuted (record {
-        out = costs_are_ruled_out (asked_of net cost log parts) bound (axioms_of new) (assumed_at parts.code.coded scale bound) is.put.clause tells (final_entailed new is.put.clause is.put.hints book ends.1) ends.0;
-        ends = record { before = is.put.before; clause = is.put.clause; hints = is.put.hints; whole = is.put.whole; learnt = is.put.all_learnt; negates = ends.0 };
+        out = costs_are_ruled_out (asked_of net cost log parts) bound (axioms_of new) (assumed_at parts.code.coded scale bound) is.put.clause tells (final_entailed new is.put.clause is.put.hints book ends.there) ends.negates;
+        ends = record { before = is.put.before; clause = is.put.clause; hints = is.put.hints; whole = is.put.whole; learnt = is.put.all_learnt; negates = ends.negates };
       })
 
   pub shown_run : answer ≡ solver.Sat → IsTrueRun parts.step parts.code.coded (value_in parts.solver.assignment)

@@ -7,7 +7,6 @@ use Rattle.event_costs.specs.declared.TheConstants.{MOST_COST}
 use Rattle.des_net.specs.Network.{Net}
 use Rattle.log_order.specs.Log.{Log}
 use Rattle.least_faults.proofs.Freshness.{fresh_axioms, fresh_both, fresh_mark}
-use Rattle.least_faults.proofs.Putting.{learnt_no_final, no_final_in, none_counted, none_final, none_joined, none_marked, one_counted, only_final}
 use Rattle.least_faults.specs.Answers.{HaveLearntFresh}
 use Rattle.least_faults.specs.Asking.{IsSearching, PutsNoFinal}
 use Rattle.least_faults.specs.Evidence.{is_final, HasFinal, HasLastFinal}
@@ -36,6 +35,7 @@ use Rattle.answers.specs.declared.cheap.Priced.{Priced}
 use Rattle.cost_least.specs.declared.asking.CostAnswer.{CostAnswer}
 use Rattle.cost_least.specs.declared.asking.CostAnswer.TheVariants.{Refuted, Spent}
 use Rattle.proof_ledger.proofs.AxiomLists.{none_learnt, marked_axioms, marked_clauses}
+use Rattle.sat_solve.proofs.Entries.{learnt_no_final, no_final_in, none_counted, none_final, none_joined, none_marked, one_counted, only_final}
 
 -- ---- by the parts as they were
 

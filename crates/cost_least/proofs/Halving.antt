@@ -9,7 +9,6 @@ use Rattle.des_base.proofs.Elements.{cons_cases, none_in_nil}
 use Rattle.event_costs.specs.declared.TheConstants.{MOST_COST}
 use Rattle.least_faults.proofs.Climbing.{no_more, searching_further, searching_none}
 use Rattle.least_faults.proofs.Entailing.{final_entailed}
-use Rattle.least_faults.proofs.Putting.{learnt_no_final, no_final_in, none_joined, only_final}
 use Rattle.least_faults.specs.Asking.{PutsNoFinal}
 use Rattle.least_faults.specs.Evidence.{HasFinal, HasLastFinal, is_final}
 use Rattle.run_decode.proofs.Faults.{count_append}
@@ -36,6 +35,7 @@ use Rattle.answers.specs.declared.cheap.Cheap.TheVariants.{Found, Dear, Undecide
 use Rattle.answers.specs.declared.cheap.Priced.{Priced}
 use Rattle.cost_least.specs.declared.asking.CostAnswer.TheVariants.{Explained, Refuted, Spent}
 use Rattle.prop_core.proofs.Negations.{NegatesLast, split_negates}
+use Rattle.sat_solve.proofs.Entries.{learnt_no_final, no_final_in, none_joined, only_final}
 
 -- literals of two amounts are not the same
 same_amount : (scale : Scale) (i j b : ℕ) → negative (place_variable scale i j) ≡ negative (place_variable scale i b) → j ≡ b

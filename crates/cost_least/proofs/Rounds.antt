@@ -4,7 +4,6 @@ use Rattle.std.specs.Prelude.{min}
 use Rattle.des_net.specs.Network.{Net, IsNetwork}
 use Rattle.event_costs.specs.StoredCosts.{GivesCosts}
 use Rattle.event_costs.specs.declared.TheConstants.{MOST_COST}
-use Rattle.least_faults.proofs.Putting.{learnt_no_final}
 use Rattle.least_faults.specs.Asking.{PutsNoFinal}
 use Rattle.least_faults.specs.Parts.{BelongTo}
 use Rattle.least_faults.specs.declared.parts.Parts.{Parts}
@@ -27,6 +26,7 @@ use Rattle.answers.specs.declared.cheap.Cheap.TheVariants.{Found, Absent, Dear, 
 use Rattle.answers.specs.declared.cheap.Priced.{Priced}
 use Rattle.cost_least.specs.declared.asking.CostAnswer.{CostAnswer}
 use Rattle.cost_least.specs.declared.asking.CostAnswer.TheVariants.{Explained, Refuted, Spent}
+use Rattle.sat_solve.proofs.Entries.{learnt_no_final}
 
 -- what the search has come to
 pub record HasComeTo {R C : Type 0} (may : R → ℕ → Type 0) (gives : R → ℕ → ℕ → Type 0) (answers : C → ℕ → ℕ → Type 0) (stored : C) (net : Net) (log : Log) (begun now : Parts R) (scale : Scale) (first new : List BookEntry) (budget left lo : ℕ) (best : Priced) : Type 0 where

@@ -4,7 +4,6 @@ use Rattle.event_costs.specs.declared.TheConstants.{MOST_COST}
 use Rattle.card_counter.specs.CounterState.{CounterState}
 use Rattle.least_faults.proofs.Climbing.{searching_further, searching_none}
 use Rattle.least_faults.proofs.Freshness.{fresh_searched}
-use Rattle.least_faults.proofs.Putting.{derived_unmarked, same_axioms}
 use Rattle.least_faults.proofs.Ranking.{still_ranked}
 use Rattle.least_faults.specs.Asking.{IsSearching}
 use Rattle.least_faults.specs.Growing.{AddsAxioms}
@@ -27,6 +26,7 @@ use Rattle.weight_counter.specs.declared.weighted.Weighted.{Weighted}
 use Rattle.cost_least.specs.Searching.{GoesOnWeighed}
 use Rattle.cost_least.specs.Weighed.{AreWeightedInputs, AreWeighedParts, AreWeighed, KeepsCode}
 use Rattle.proof_ledger.proofs.AxiomLists.{axioms_added}
+use Rattle.sat_solve.proofs.Entries.{derived_unmarked, same_axioms}
 
 -- ---- as it is written
 

@@ -1,25 +1,22 @@
 -- What a question about an event comes to, by the answer of the solver; and what it is between its marks.
-use Rattle.std.proofs.Common.{◌≡◌, ◌↔◌, ◌∙◌, ◌⊎◌, inl, inr, ℕ, ◌<◌, ◌≤◌, Bool, true, List, [], ◌∷◌, ◌++◌, length, map, Result, Ok, Err, IfOk, refl, sym, ap, subst, arith, Contains, IsTrue, count_by, append_assoc}
+use Rattle.std.proofs.Common.{◌≡◌, ◌↔◌, ◌∙◌, inl, inr, ℕ, ◌<◌, ◌≤◌, Bool, true, List, [], ◌∷◌, ◌++◌, length, map, Result, Ok, Err, IfOk, refl, sym, ap, subst, arith, Contains, IsTrue, count_by, append_assoc}
 use Rattle.std.proofs.lemmas.List.{append_cancel_left}
-use Rattle.std.proofs.lemmas.List.Elements.{Contains-append_cases as append_cases, Contains-append_right as append_right}
-use Rattle.std.specs.List.{list_all}
+use Rattle.std.proofs.lemmas.List.Elements.{Contains-append_right as append_right}
 use Rattle.card_counter.specs.Counting.{true_count}
-use Rattle.des_base.proofs.Elements.{all_from as all_of, all_split, here_first}
+use Rattle.des_base.proofs.Elements.{all_from as all_of, all_split}
 use Rattle.des_net.specs.Network.{Net, IsNetwork}
 use Rattle.fault_verdicts.proofs.Asking.{HasPosed, has_posed}
 use Rattle.fault_verdicts.proofs.Events.{few_true, run_has, true_run_of}
 use Rattle.fault_verdicts.proofs.Going.{belong_on, ready_after_search}
 use Rattle.fault_verdicts.proofs.Judged.{asked_beside, open_found, possible_found, refuted_found}
 use Rattle.fault_verdicts.specs.Asked.{IsPosedOf, some_step_clauses}
-use Rattle.fault_verdicts.specs.Judged.{FinalsNegateAssumed, IsBestRun, IsJudged, IsVerdict, FinalsNegateAsked, IsVerdictOpenAtMost, IsQuestionAbout}
+use Rattle.fault_verdicts.specs.Judged.{IsBestRun, IsJudged, IsVerdict, FinalsNegateAsked, IsVerdictOpenAtMost, IsQuestionAbout}
 use Rattle.fault_verdicts.specs.Judging.{AreAssumedOf, IsSolvedAbout, IsSaidBy, IsVerdictShown, KeepsStepsAndLog, bound_for, verdict_of, EndsWithoutVerdict}
 use Rattle.answers.specs.declared.verdict.Verdict.{Verdict}
 use Rattle.answers.specs.declared.verdict.Verdict.TheVariants.{Possible, Open}
 use Rattle.least_faults.proofs.Asked.{axioms_true, searching_both}
-use Rattle.least_faults.proofs.Assuming.{negates_only}
 use Rattle.least_faults.proofs.Entailing.{final_entailed}
-use Rattle.least_faults.proofs.Putting.{learnt_no_final, no_final_in, none_counted, none_final, none_joined, one_counted, only_final, same_last}
-use Rattle.least_faults.specs.Evidence.{HasFinal, is_final}
+use Rattle.least_faults.specs.Evidence.{is_final}
 use Rattle.least_faults.specs.Asking.{IsSearching, PutsNoFinal}
 use Rattle.least_faults.specs.Growing.{AddsAxioms}
 use Rattle.least_faults.specs.Parts.{BelongTo}
@@ -29,7 +26,7 @@ use Rattle.log_order.specs.Log.{Log, IsValidLog}
 use Rattle.log_order.specs.Order.{least_order}
 use Rattle.proof_ledger.specs.Book.{BookEntry, axiomatic, final, mark, axioms_of, clauses_of, IsValidBook}
 use Rattle.proof_ledger.specs.Fresh.{is_learnt, AreFresh}
-use Rattle.prop_core.specs.Clauses.{clause_true, is_true, literal_true, negation, value_in, AllClausesTrue, AllLiteralsTrue, NegatesOnly}
+use Rattle.prop_core.specs.Clauses.{clause_true, literal_true, value_in, AllClausesTrue, AllLiteralsTrue}
 use Rattle.prop_core.specs.declared.lit.Lit.{Lit}
 use Rattle.replay.specs.Explanation.{Explains, faults_of}
 use Rattle.replay.specs.Matching.{IsWellMatched, order_of}
@@ -37,13 +34,14 @@ use Rattle.replay.specs.Traced.{word_of}
 use Rattle.replay.specs.declared.run.RunStep.{RunStep}
 use Rattle.run_decode.specs.Decoding.{IsTrueRun, decoded_run}
 use Rattle.run_decode.specs.RunNaming.{AreFalseLiterals, truth_of}
-use Rattle.sat_solve.specs.Searching.{AreLearnt, HasPut, IsAnswer, IsModel, IsRefuted, IsSearched}
+use Rattle.sat_solve.specs.Searching.{HasPut, IsAnswer, IsModel, IsSearched}
 use Rattle.sat_solve.specs.Solving.{KeepsSize, SolverState}
 use Rattle.sat_solve.specs.declared.answer.Answer.{Answer}
 use Rattle.sat_solve.specs.declared.answer.Answer.TheVariants.{Sat, Unsat, Spent}
 use Rattle.step_encode.specs.Coded.{CodedSteps, code_grid}
 use Rattle.step_encode.specs.FaultInputs.{fault_literals}
 use Rattle.proof_ledger.proofs.AxiomLists.{marked_axioms, marked_clauses}
+use Rattle.sat_solve.proofs.Entries.{AreFinalsFor, last_final_for, no_final_in, none_counted, none_final, put_finals, put_since}
 
 -- ---- what is true of a model
 
@@ -66,67 +64,17 @@ module _ {R : Type 0} (may : R → ℕ → Type 0) (gives : R → ℕ → ℕ �
 
 -- ---- what the solver says
 
--- the last entry is the final one
-ends : (old mid new : List BookEntry) (before after : ℕ) (assumed : List Lit) (adds : AddsAxioms old mid) (searched : IsSearched mid new before after) (number : ℕ) → HasPut mid new (Unsat number) → IsRefuted new assumed number → HasFinal (map axiomatic adds.axioms ++ searched.since) assumed
-ends old mid new before after assumed adds searched number put refuted =
-    let same : put.since ≡ searched.since = append_cancel_left mid put.since searched.since (sym put.whole ∙ searched.whole) in
-    let last : (mid ++ put.put.before) ++ final put.put.clause put.put.hints ∷ [] ≡ refuted.earlier ++ final refuted.clause refuted.hints ∷ [] =
-    append_assoc mid put.put.before (final put.put.clause put.put.hints ∷ []) ∙ ap (λ xs. mid ++ xs) (sym put.put.whole) ∙ sym put.whole ∙ refuted.last in
-    let clause = same_last (mid ++ put.put.before) refuted.earlier put.put.clause refuted.clause put.put.hints refuted.hints last in
-    record {
-      clause = put.put.clause;
-      hints = put.put.hints;
-      there = append_right (map axiomatic adds.axioms) searched.since (final put.put.clause put.put.hints)
-          (subst (λ xs. Contains xs (final put.put.clause put.put.hints)) (sym put.put.whole ∙ same)
-          (append_right put.put.before (final put.put.clause put.put.hints ∷ []) (final put.put.clause put.put.hints) (here_first (final put.put.clause put.put.hints) [] (final put.put.clause put.put.hints) refl)));
-      negates = negates_only assumed put.put.clause (subst (λ c. list_all (λ l. is_true assumed (negation l)) c ≡ true) (sym clause) refuted.negated);
-    }
-
--- axioms, and then learnt entries alone
-none_put : (old mid new : List BookEntry) (before after : ℕ) (assumed : List Lit) (adds : AddsAxioms old mid) (searched : IsSearched mid new before after) (since : List BookEntry) → new ≡ mid ++ since → AreLearnt since → FinalsNegateAssumed assumed (map axiomatic adds.axioms ++ searched.since)
-none_put old mid new before after assumed adds searched since whole all clause hints in' =
-    let same : since ≡ searched.since = append_cancel_left mid since searched.since (sym whole ∙ searched.whole) in
-    absurd (no_final_in (map axiomatic adds.axioms ++ searched.since) clause hints (none_joined (map axiomatic adds.axioms) searched.since (none_final adds.axioms) (learnt_no_final searched.since (subst AreLearnt same all))) in')
-
--- axioms, learnt entries, and then a final one
-one_put : (old mid new : List BookEntry) (before after : ℕ) (assumed : List Lit) (adds : AddsAxioms old mid) (searched : IsSearched mid new before after) (number : ℕ) → HasPut mid new (Unsat number) → IsRefuted new assumed number → FinalsNegateAssumed assumed (map axiomatic adds.axioms ++ searched.since)
-unfolding ends
-one_put old mid new before after assumed adds searched number put refuted clause hints in' = by (append_cases (map axiomatic adds.axioms) searched.since (final clause hints) in')
-  where
-    same : put.since ≡ searched.since
-    same = append_cancel_left mid put.since searched.since (sym put.whole ∙ searched.whole)
-
-    negates : NegatesOnly assumed put.put.clause
-    negates = (ends old mid new before after assumed adds searched number put refuted).negates
-
-    by : Contains (map axiomatic adds.axioms) (final clause hints) ⊎ Contains searched.since (final clause hints) → NegatesOnly assumed clause
-    by (inl there) = absurd (no_final_in (map axiomatic adds.axioms) clause hints (none_final adds.axioms) there)
-    by (inr here) = subst (NegatesOnly assumed) (sym (only_final put.since clause hints put.put (subst (λ (es : List BookEntry). Contains es (final clause hints)) (sym same) here))) negates
-
-finals_by : (old mid new : List BookEntry) (before after : ℕ) (values : List Bool) (assumed : List Lit) (adds : AddsAxioms old mid) (searched : IsSearched mid new before after) (answer : Answer) → HasPut mid new answer → IsAnswer values new assumed after answer → FinalsNegateAssumed assumed (map axiomatic adds.axioms ++ searched.since)
-finals_by old mid new before after values assumed adds searched Sat put is = none_put old mid new before after assumed adds searched put.since put.whole put.put
-finals_by old mid new before after values assumed adds searched (Unsat number) put is = one_put old mid new before after assumed adds searched number put is
-finals_by old mid new before after values assumed adds searched Spent put is = none_put old mid new before after assumed adds searched put.since put.whole put.put
-
--- at most one
-few_put : (old mid new : List BookEntry) (before after : ℕ) (adds : AddsAxioms old mid) (searched : IsSearched mid new before after) (since : List BookEntry) → new ≡ mid ++ since → AreLearnt since → count_by is_final (map axiomatic adds.axioms ++ searched.since) ≤ 1
-few_put old mid new before after adds searched since whole all =
-    let same : since ≡ searched.since = append_cancel_left mid since searched.since (sym whole ∙ searched.whole) in
-    let none = none_counted (map axiomatic adds.axioms ++ searched.since) (none_joined (map axiomatic adds.axioms) searched.since (none_final adds.axioms) (learnt_no_final searched.since (subst AreLearnt same all))) in
-    omega (arith, none)
-
-few_by : (old mid new : List BookEntry) (before after : ℕ) (adds : AddsAxioms old mid) (searched : IsSearched mid new before after) (answer : Answer) → HasPut mid new answer → count_by is_final (map axiomatic adds.axioms ++ searched.since) ≤ 1
-few_by old mid new before after adds searched Sat put = few_put old mid new before after adds searched put.since put.whole put.put
-few_by old mid new before after adds searched (Unsat number) put =
-    let same : put.since ≡ searched.since = append_cancel_left mid put.since searched.since (sym put.whole ∙ searched.whole) in
-    let whole = ap (λ xs. map axiomatic adds.axioms ++ xs) (sym same ∙ put.put.whole) ∙ sym (append_assoc (map axiomatic adds.axioms) put.put.before (final put.put.clause put.put.hints ∷ [])) in
-    let one = ap (count_by is_final) whole ∙ one_counted (map axiomatic adds.axioms) put.put.before put.put.clause put.put.hints (none_final adds.axioms) put.put.all_learnt in
-    omega (arith, one)
-few_by old mid new before after adds searched Spent put = few_put old mid new before after adds searched put.since put.whole put.put
+-- axioms, and then what was put for the answer
+finals_by : (old mid new : List BookEntry) (before after : ℕ) (values : List Bool) (assumed : List Lit) (adds : AddsAxioms old mid) (searched : IsSearched mid new before after) (answer : Answer) → HasPut mid new answer → IsAnswer values new assumed after answer → AreFinalsFor assumed (map axiomatic adds.axioms ++ searched.since)
+finals_by old mid new before after values assumed adds searched answer put says =
+    put_finals assumed values mid new (map axiomatic adds.axioms) searched.since after answer (none_final adds.axioms) searched.whole (put_since mid new searched.since answer searched.whole put) says
 
 said_by : (old mid new : List BookEntry) (before after : ℕ) (values : List Bool) (assumed : List Lit) (adds : AddsAxioms old mid) (searched : IsSearched mid new before after) (answer : Answer) → HasPut mid new answer → IsAnswer values new assumed after answer → IsSaidBy values (map axiomatic adds.axioms ++ searched.since) new assumed after answer
 said_by old mid new before after values assumed adds searched Sat put is = is
-said_by old mid new before after values assumed adds searched (Unsat number) put is = ends old mid new before after assumed adds searched number put is
+said_by old mid new before after values assumed adds searched (Unsat number) put is =
+    let closed = put_since mid new searched.since (Unsat number) searched.whole put in
+    let last = last_final_for assumed mid new searched.since number searched.whole closed is in
+    record { clause = closed.clause; hints = closed.hints; there = append_right (map axiomatic adds.axioms) searched.since (final closed.clause closed.hints) last.put; negates = last.negates }
 said_by old mid new before after values assumed adds searched Spent put is = is
 
 pub solved : {R E : Type 0} (may : R → ℕ → Type 0) (gives : R → ℕ → ℕ → Type 0) (parts : Parts R) (solver : SolverState R) (k e : ℕ) (there : Bool) (assumed slice : List Lit) (old mid new : List BookEntry) (before after : ℕ) (result : Result Answer E) → AreAssumedOf may gives parts mid k e there assumed →
@@ -145,8 +93,8 @@ solved may gives parts solver k e there assumed slice old mid new before after (
     whole = are.whole;
   };
   searching = searching_both old mid new before after adds searched are.ready.beside.known;
-  finals = finals_by old mid new before after solver.assignment assumed adds searched answer put (subst (λ (xs : List Lit). IsAnswer solver.assignment new xs after answer) same is);
-  few = few_by old mid new before after adds searched answer put;
+  finals = (finals_by old mid new before after solver.assignment assumed adds searched answer put (subst (λ (xs : List Lit). IsAnswer solver.assignment new xs after answer) same is)).negate;
+  few = (finals_by old mid new before after solver.assignment assumed adds searched answer put (subst (λ (xs : List Lit). IsAnswer solver.assignment new xs after answer) same is)).few;
   says = said_by old mid new before after solver.assignment assumed adds searched answer put (subst (λ (xs : List Lit). IsAnswer solver.assignment new xs after answer) same is);
 }
 

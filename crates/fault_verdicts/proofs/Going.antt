@@ -5,7 +5,6 @@ use Rattle.fault_verdicts.specs.Judging.{KeepsStepsAndLog}
 use Rattle.fault_verdicts.specs.Ready.{AreReadyWith, AreReadyForVerdicts}
 use Rattle.least_faults.proofs.Columns.{keeps_both, keeps_none}
 use Rattle.least_faults.proofs.Freshness.{known_same}
-use Rattle.least_faults.proofs.Putting.{same_axioms}
 use Rattle.least_faults.proofs.Ranking.{still_ranked}
 use Rattle.least_faults.specs.Columns.{columns_built}
 use Rattle.least_faults.specs.Growing.{KeepsQuestion}
@@ -22,6 +21,7 @@ use Rattle.sat_solve.specs.Searching.{IsSearched}
 use Rattle.sat_solve.specs.Solving.{SolverState}
 use Rattle.step_encode.specs.Coded.{CodedSteps}
 use Rattle.proof_ledger.proofs.AxiomLists.{marked_axioms, marked_clauses}
+use Rattle.sat_solve.proofs.Entries.{same_axioms}
 
 -- ---- the parts
 

@@ -1,5 +1,5 @@
 -- What a question comes to: what it leaves in the book, and what its answer means.
-use Rattle.std.proofs.Common.{◌≡◌, ◌≢◌, ◌∙◌, ℕ, ◌+◌, ◌<◌, ◌≤◌, ◌⊎◌, inl, inr, Bool, true, false, List, [], ◌∷◌, ◌++◌, length, max, Option, None, Some, IfSome, IfNone, map, refl, sym, ap, subst, arith, Contains, count_by, IsTrue, append-nil, append_assoc}
+use Rattle.std.proofs.Common.{◌≡◌, ◌≢◌, ◌∙◌, ℕ, ◌+◌, ◌<◌, ◌≤◌, inl, inr, Bool, true, false, List, [], ◌∷◌, ◌++◌, length, max, Option, None, Some, IfSome, IfNone, map, refl, sym, ap, subst, arith, Contains, count_by, IsTrue, append-nil, append_assoc}
 use Rattle.std.specs.Prelude.{⊤}
 use Rattle.std.proofs.lemmas.List.{append_cancel_left}
 use Rattle.std.specs.List.{AllByRecursion, list_any, list_all}
@@ -8,13 +8,13 @@ use Rattle.card_counter.specs.Counting.{true_count}
 use Rattle.card_counter.specs.CounterState.{CounterState, counter_clauses, bound_literal}
 use Rattle.des_base.proofs.Elements.{all_append, all_split, here_first, all_from as all_of}
 use Rattle.des_net.specs.Network.{Net, IsNetwork}
-use Rattle.least_faults.proofs.Assuming.{assumed_below, negates_only}
+use Rattle.least_faults.proofs.Assuming.{assumed_below}
 use Rattle.least_faults.proofs.Below.{axioms_below}
 use Rattle.least_faults.proofs.Entailing.{final_entailed}
 use Rattle.least_faults.proofs.Freshness.{fresh_after, fresh_axioms}
 use Rattle.least_faults.proofs.KnownVariables.{book_below, known_back}
 use Rattle.least_faults.proofs.Posing.{poses}
-use Rattle.least_faults.proofs.Putting.{none_marked, none_final, derived_unmarked, same_axioms, learnt_no_final, no_final_in, none_counted, none_joined, one_counted, only_final, same_last, axioms_with_learnt}
+use Rattle.least_faults.proofs.Putting.{axioms_with_learnt}
 use Rattle.least_faults.proofs.Staying.{question_both, question_kept}
 use Rattle.answers.specs.declared.found.Best.{Best}
 use Rattle.least_faults.specs.declared.asking.Asked.{Asked}
@@ -31,7 +31,7 @@ use Rattle.log_encode.specs.CodedLog.{CodedLog, without_names}
 use Rattle.log_order.specs.Log.{Log, IsValidLog}
 use Rattle.proof_ledger.specs.Book.{BookEntry, axiomatic, learnt, final, mark, axioms_of, clauses_of, is_mark, IsValidBook}
 use Rattle.proof_ledger.specs.Fresh.{is_learnt}
-use Rattle.prop_core.specs.Clauses.{Clause, HasValues, clause_true, literal_true, AllClausesTrue, AllLiteralsTrue, NegatesOnly}
+use Rattle.prop_core.specs.Clauses.{Clause, HasValues, clause_true, literal_true, AllClausesTrue, AllLiteralsTrue}
 use Rattle.prop_core.specs.declared.lit.Lit.{Lit}
 use Rattle.run_decode.proofs.Decided.{refuted_is_decided}
 use Rattle.run_decode.specs.Decided.{Entails}
@@ -39,14 +39,15 @@ use Rattle.run_decode.specs.Faithful.{IsWithin, IsFaithful}
 use Rattle.run_decode.specs.Decoding.{IsTrueRun}
 use Rattle.run_decode.specs.QuestionAxioms.{BuiltQuestion}
 use Rattle.least_faults.proofs.Ranking.{still_ranked}
-use Rattle.sat_solve.specs.Searching.{HasAxiomVars, HasLearnt, IsSearched, HasPut, IsRefuted, IsSpent}
+use Rattle.sat_solve.specs.Searching.{IsClosedByFinal, HasAxiomVars, HasLearnt, IsSearched, HasPut, IsRefuted, IsSpent}
 use Rattle.sat_solve.specs.Solving.{KeepsSize, SolverState}
 use Rattle.sat_solve.specs.declared.answer.Answer.TheVariants as solver
-use Rattle.std.proofs.lemmas.List.Elements.{Contains-append_cases as append_cases, Contains-append_left as append_left, Contains-append_right as append_right}
+use Rattle.std.proofs.lemmas.List.Elements.{Contains-append_left as append_left, Contains-append_right as append_right}
 use Rattle.run_decode.proofs.Faults.{count_append}
 use Rattle.run_decode.specs.WholeNaming.{whole_meanings}
 use Rattle.step_encode.specs.Coded.{CodedSteps}
 use Rattle.proof_ledger.proofs.AxiomLists.{none_learnt}
+use Rattle.sat_solve.proofs.Entries.{AreFinalsFor, IsLastFinalFor, derived_unmarked, last_final_for, learnt_no_final, no_final_in, none_counted, none_final, none_joined, none_marked, put_finals, put_since, same_axioms}
 
 -- ---- what is put
 
@@ -165,10 +166,6 @@ module _ (steps : CodedSteps) (code : CodedLog) (counter : CounterState) (vars :
   all_known : AllByRecursion (HasValues (built_within begun bound).vars) (clauses_of new)
   all_known = book_below (built_within begun bound).vars new (subst (AllByRecursion (HasValues (built_within begun bound).vars)) (sym now_axioms) axioms_known) (searched.known known)
 
-  -- the entries that a search put are those that its answer says
-  same_since : (since : List BookEntry) → new ≡ mid ++ since → since ≡ searched.since
-  same_since since whole = append_cancel_left mid since searched.since (sym whole ∙ searched.whole)
-
   no_final : list_all is_learnt searched.since ≡ true → list_any is_final (map axiomatic adds.axioms ++ searched.since) ≡ false
   no_final all_learnt = none_joined (map axiomatic adds.axioms) searched.since (none_final adds.axioms) (learnt_no_final searched.since all_learnt)
 
@@ -195,7 +192,7 @@ module _ (steps : CodedSteps) (code : CodedLog) (counter : CounterState) (vars :
     searching = searching_both old mid new before after adds searched known;
     columns = wide;
     known = all_known;
-    put = put_learnt Spent none (subst (λ xs. list_all is_learnt xs ≡ true) (same_since put.since put.whole) put.put);
+    put = put_learnt Spent none (put_since mid new searched.since solver.Spent searched.whole put);
     means = record { nothing = spent.nothing; assumed = assumed; assumptions = assumptions; clashes = spent.clashes };
   }
 
@@ -226,7 +223,7 @@ module _ (steps : CodedSteps) (code : CodedLog) (counter : CounterState) (vars :
     searching = searching_both old mid new before after adds searched known;
     columns = wide;
     known = all_known;
-    put = put_learnt (Explained best) none (subst (λ xs. list_all is_learnt xs ≡ true) (same_since put.since put.whole) put.put);
+    put = put_learnt (Explained best) none (put_since mid new searched.since solver.Sat searched.whole put);
     means = record {
       given = given;
       within = is_within value bound assumed assumptions.whole assumptions.column axioms literals best.faults count;
@@ -245,8 +242,8 @@ module _ (steps : CodedSteps) (code : CodedLog) (counter : CounterState) (vars :
     columns = wide;
     known = all_known;
     put = record {
-      finals = λ clause hints in'. (assumed, assumptions, negates clause hints in');
-      few = (let one = ap (count_by is_final) closes ∙ one_counted (map axiomatic adds.axioms) put.put.before put.put.clause put.put.hints (none_final adds.axioms) put.put.all_learnt in omega (arith, one));
+      finals = λ clause hints in'. (assumed, assumptions, finals.negate clause hints in');
+      few = finals.few;
       none = λ not. absurd (refused not);
       unbounded = if_none bound (⊤) (Refuted ≢ Refuted → list_all is_learnt (map axiomatic adds.axioms ++ searched.since) ≡ true) (λ p not. absurd (refused not)) (given bound);
     };
@@ -255,37 +252,46 @@ module _ (steps : CodedSteps) (code : CodedLog) (counter : CounterState) (vars :
       assumptions = assumptions;
       refuted = record {
         refuted = record {
-          earlier = map axiomatic adds.axioms ++ put.put.before;
-          clause = put.put.clause;
-          hints = put.put.hints;
+          earlier = map axiomatic adds.axioms ++ closed.before;
+          clause = closed.clause;
+          hints = closed.hints;
           later = [];
           whole = closes;
           last = refl;
-          negates = last_negates;
+          negates = last.negates;
         };
         listed = before_it ∙ listed;
-        known = all_append (HasValues most) begun.axioms (clauses_of (earlier ++ final put.put.clause put.put.hints ∷ []))
+        known = all_append (HasValues most) begun.axioms (clauses_of (earlier ++ final closed.clause closed.hints ∷ []))
             (all_split (HasValues most) begun.axioms (axioms_of earlier) (subst (AllByRecursion (HasValues most)) (sym before_it) axioms_known)).0
-            (known_back most old (earlier ++ final put.put.clause put.put.hints ∷ []) (subst (λ es. AllByRecursion (HasValues most) (clauses_of es)) (both_whole old mid new before after adds searched ∙ ap (λ es. old ++ es) closes) all_known));
+            (known_back most old (earlier ++ final closed.clause closed.hints ∷ []) (subst (λ es. AllByRecursion (HasValues most) (clauses_of es)) (both_whole old mid new before after adds searched ∙ ap (λ es. old ++ es) closes) all_known));
         known_assumed = subst (λ n. HasValues n assumed) counted (assumed_below steps code counter vars (axioms_of mid) (axioms_of mid) assumed steps.net log steps.steps bound parts posed);
         faithful = subst (λ axioms. IsFaithful axioms assumed net log steps.steps bound) (sym before_it) faithful;
       };
-      decided = refuted_is_decided net log steps.steps bound (axioms_of mid) assumed put.put.clause faithful
-          (subst (λ axioms. Entails axioms put.put.clause) now_axioms (final_entailed new put.put.clause put.put.hints whole there)) last_negates;
+      decided = refuted_is_decided net log steps.steps bound (axioms_of mid) assumed closed.clause faithful
+          (subst (λ axioms. Entails axioms closed.clause) now_axioms (final_entailed new closed.clause closed.hints whole last.there)) last.negates;
     };
   }
     where
+      closed : IsClosedByFinal searched.since
+      closed = put_since mid new searched.since (solver.Unsat number) searched.whole put
+
+      last : IsLastFinalFor assumed new searched.since closed
+      last = last_final_for assumed mid new searched.since number searched.whole closed refuted
+
+      finals : AreFinalsFor assumed (map axiomatic adds.axioms ++ searched.since)
+      finals = put_finals assumed [] mid new (map axiomatic adds.axioms) searched.since after (solver.Unsat number) (none_final adds.axioms) searched.whole closed refuted
+
       most : ℕ
       most = (built_within begun bound).vars
 
       earlier : List BookEntry
-      earlier = map axiomatic adds.axioms ++ put.put.before
+      earlier = map axiomatic adds.axioms ++ closed.before
 
-      closes : map axiomatic adds.axioms ++ searched.since ≡ earlier ++ final put.put.clause put.put.hints ∷ []
-      closes = ap (λ xs. map axiomatic adds.axioms ++ xs) (sym (same_since put.since put.whole) ∙ put.put.whole) ∙ sym (append_assoc (map axiomatic adds.axioms) put.put.before (final put.put.clause put.put.hints ∷ []))
+      closes : map axiomatic adds.axioms ++ searched.since ≡ earlier ++ final closed.clause closed.hints ∷ []
+      closes = ap (λ xs. map axiomatic adds.axioms ++ xs) closed.whole ∙ sym (append_assoc (map axiomatic adds.axioms) closed.before (final closed.clause closed.hints ∷ []))
 
-      before_it : begun.axioms ++ axioms_of (map axiomatic adds.axioms ++ put.put.before) ≡ axioms_of mid
-      before_it = ap (λ cs. cs ++ axioms_of (map axiomatic adds.axioms ++ put.put.before)) at_first ∙ axioms_with_learnt old mid (map axiomatic adds.axioms) put.put.before adds.more put.put.all_learnt
+      before_it : begun.axioms ++ axioms_of (map axiomatic adds.axioms ++ closed.before) ≡ axioms_of mid
+      before_it = ap (λ cs. cs ++ axioms_of (map axiomatic adds.axioms ++ closed.before)) at_first ∙ axioms_with_learnt old mid (map axiomatic adds.axioms) closed.before adds.more closed.all_learnt
 
       posed : IsPosed (whole_meanings steps code counter) (axioms_of mid) assumed steps.net log steps.steps bound
       posed = poses steps code counter vars (axioms_of mid) bound assumed parts assumptions log (subst IsNetwork (sym of_net) network) valid same
@@ -294,29 +300,9 @@ module _ (steps : CodedSteps) (code : CodedLog) (counter : CounterState) (vars :
       faithful = subst (λ net'. IsFaithful (axioms_of mid) assumed net' log steps.steps bound) of_net
           posed.faithful
 
-      same_put : put.since ≡ searched.since
-      same_put = same_since put.since put.whole
-
       given : (b : Option ℕ) → IfNone b ⊤
       given None = tt
       given (Some k) = tt
-
-      new_is : new ≡ (mid ++ put.put.before) ++ final put.put.clause put.put.hints ∷ []
-      new_is = put.whole ∙ ap (λ xs. mid ++ xs) put.put.whole ∙ sym (append_assoc mid put.put.before (final put.put.clause put.put.hints ∷ []))
-
-      last_negates : NegatesOnly assumed put.put.clause
-      last_negates = subst (NegatesOnly assumed) (same_last refuted.earlier (mid ++ put.put.before) refuted.clause put.put.clause refuted.hints put.put.hints (sym refuted.last ∙ new_is)) (negates_only assumed refuted.clause refuted.negated)
-
-      there : Contains new (final put.put.clause put.put.hints)
-      there = subst (λ xs. Contains xs (final put.put.clause put.put.hints)) (sym new_is)
-          (append_right (mid ++ put.put.before) (final put.put.clause put.put.hints ∷ []) (final put.put.clause put.put.hints) (here_first (final put.put.clause put.put.hints) [] (final put.put.clause put.put.hints) refl))
-
-      negates : (clause : Clause) (hints : List ℕ) → Contains (map axiomatic adds.axioms ++ searched.since) (final clause hints) → NegatesOnly assumed clause
-      negates clause hints in' = by (append_cases (map axiomatic adds.axioms) searched.since (final clause hints) in')
-        where
-          by : Contains (map axiomatic adds.axioms) (final clause hints) ⊎ Contains searched.since (final clause hints) → NegatesOnly assumed clause
-          by (inl first) = absurd (no_final_in (map axiomatic adds.axioms) clause hints (none_final adds.axioms) first)
-          by (inr here) = subst (NegatesOnly assumed) (sym (only_final put.since clause hints put.put (subst (λ xs. Contains xs (final clause hints)) (sym same_put) here))) last_negates
 
 -- where the book stayed as it was, no axiom was added
 pub none_added : (bound : Option ℕ) (old mid : List BookEntry) → (adds : AddsAxioms old mid) → IfNone bound (mid ≡ old) → IfNone bound (adds.axioms ≡ [])

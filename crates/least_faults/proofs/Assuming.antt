@@ -1,9 +1,7 @@
 -- What a question assumes: variables that were made, no contradiction, and the same where the counter gets a column.
-use Rattle.std.proofs.Common.{◌≡◌, ◌≢◌, ◌∙◌, ℕ, ◌+◌, ◌<◌, true, false, ◌⊎◌, inl, inr, List, [], ◌∷◌, ◌++◌, length, map, max, Option, None, Some, sym, ap, subst, arith, Contains, ◌-◌, append-nil, length-append}
-use Rattle.std.specs.List.{list_all}
+use Rattle.std.proofs.Common.{◌≡◌, ◌≢◌, ◌∙◌, ℕ, ◌+◌, ◌<◌, true, false, ◌⊎◌, inl, inr, List, [], ◌∷◌, ◌++◌, length, map, max, Option, None, Some, sym, ap, subst, arith, ◌-◌, append-nil, length-append}
 use Rattle.card_counter.specs.CounterState.{CounterState, column_at, var_at, bound_literal, negative}
-use Rattle.des_base.proofs.BoolLemmas.{otherwise as as_false, either as or_cases, both}
-use Rattle.des_base.proofs.Elements.{here_first, here_later}
+use Rattle.des_base.proofs.BoolLemmas.{otherwise as as_false, either as or_cases}
 use Rattle.des_base.specs.Lists.{EachPair}
 use Rattle.least_faults.proofs.Below.{read_below, names_below}
 use Rattle.least_faults.specs.Asking.{AreAssumed, AreAssumptions}
@@ -21,33 +19,19 @@ use Rattle.log_order.specs.Log.{Log}
 use Rattle.prop_core.proofs.FamilyLemmas.{reads_whole}
 use Rattle.prop_core.proofs.Listed.{clause_written}
 use Rattle.prop_core.proofs.Literals.{same_is, not_self, negation_twice}
-use Rattle.prop_core.specs.Clauses.{Clause, HasValues, is_true, is_false, negation, same_literal, NegatesOnly, AreConsistent}
+use Rattle.prop_core.specs.Clauses.{Clause, HasValues, is_true, is_false, negation, same_literal, AreConsistent}
 use Rattle.prop_core.specs.Listings.{literal_by}
 use Rattle.prop_core.specs.VariableNames.{ReadsAs, named_clause}
 use Rattle.prop_core.specs.declared.lit.Lit.{Lit}
 use Rattle.run_decode.specs.WholeNaming.{whole_meanings}
 use Rattle.std.proofs.Math.ListN.{get_or-append}
 use Rattle.step_encode.specs.Coded.{CodedSteps}
+use Rattle.sat_solve.proofs.Entries.{true_there}
 
 pub assumed_below : (steps : CodedSteps) (code : CodedLog) (counter : CounterState) (vars : ℕ) (axioms clauses : List Clause) (assumed : List Lit) (net : Net) (log : Log) (n : ℕ) (bound : Option ℕ) →
     AreParts steps code counter vars axioms → IsPosed (whole_meanings steps code counter) clauses assumed net log n bound → HasValues vars assumed
 assumed_below steps code counter vars axioms clauses assumed net log n bound parts posed =
     read_below vars (whole_meanings steps code counter) assumed posed.assumes.read (names_below steps code counter vars axioms parts) posed.assumes.by_name
-
--- a literal that is true under a list is in it
-pub true_there : (taken : List Lit) (l : Lit) → is_true taken l ≡ true → Contains taken l
-true_there [] l h = cc
-true_there (x ∷ taken) l h = by (or_cases (same_literal l x) (is_true taken l) h) (true_there taken l)
-  where
-    by : (same_literal l x ≡ true) ⊎ (is_true taken l ≡ true) → (is_true taken l ≡ true → Contains taken l) → Contains (x ∷ taken) l
-    by (inl same) later = here_first x taken l (sym (same_is l x same))
-    by (inr rest) later = here_later x taken l (later rest)
-
-pub negates_only : (assumed : List Lit) (clause : Clause) → list_all (λ l. is_true assumed (negation l)) clause ≡ true → NegatesOnly assumed clause
-negates_only assumed [] h = tt
-negates_only assumed (l ∷ clause) h =
-    let parts = both (is_true assumed (negation l)) (list_all (λ l'. is_true assumed (negation l')) clause) h in
-    (true_there assumed (negation l) parts.0, negates_only assumed clause parts.1)
 
 -- ---- no contradiction
 

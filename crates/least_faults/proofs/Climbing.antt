@@ -10,7 +10,7 @@ use Rattle.least_faults.proofs.Entailing.{final_entailed}
 use Rattle.least_faults.proofs.Freshness.{fresh_none, fresh_both}
 use Rattle.least_faults.proofs.KnownVariables.{known_back, known_front}
 use Rattle.least_faults.proofs.Posing.{poses}
-use Rattle.least_faults.proofs.Putting.{no_final_in, learnt_no_final, none_counted, last_later, last_earlier}
+use Rattle.least_faults.proofs.Putting.{last_later, last_earlier}
 use Rattle.least_faults.proofs.Telling.{tells_bound}
 use Rattle.answers.specs.declared.found.Best.{Best}
 use Rattle.answers.specs.declared.found.Found.{Found}
@@ -39,6 +39,7 @@ use Rattle.run_decode.specs.WholeNaming.{whole_meanings}
 use Rattle.std.proofs.lemmas.List.Elements.{Contains-append_cases as append_cases, Contains-append_right as append_right}
 use Rattle.run_decode.proofs.Faults.{count_append}
 use Rattle.step_encode.specs.Coded.{CodedSteps}
+use Rattle.sat_solve.proofs.Entries.{learnt_no_final, no_final_in, none_counted}
 
 pub as_explained : (net : Net) (log : Log) (n : ℕ) (best : Best) → IsExplanation net log n best → IsExplained net log n best.faults
 as_explained net log n best given = record { word = _; order = _; explains = given.explains; faults = given.faults }

@@ -9,7 +9,6 @@ use Rattle.des_net.specs.Network.{Net}
 use Rattle.least_faults.proofs.ColumnsBuilt.{vars_grow, within_none}
 use Rattle.least_faults.proofs.Freshness.{fresh_both, fresh_mark, fresh_none, known_same}
 use Rattle.least_faults.proofs.KnownVariables.{known_back, known_joined}
-use Rattle.least_faults.proofs.Putting.{learnt_no_final, no_final_in, none_counted, learnt_no_axioms}
 use Rattle.least_faults.proofs.Staying.{kept_by_axioms, with_axioms}
 use Rattle.answers.specs.declared.found.Best.{Best}
 use Rattle.answers.specs.declared.found.Found.{Found}
@@ -34,6 +33,7 @@ use Rattle.least_faults.specs.Growing.{HasGrownWithin, KeepsQuestion}
 use Rattle.run_decode.proofs.Faults.{count_append}
 use Rattle.proof_ledger.proofs.AxiomLists.{marked_axioms, marked_clauses}
 use Rattle.prop_core.proofs.Literals.{wider}
+use Rattle.sat_solve.proofs.Entries.{learnt_no_axioms, learnt_no_final, no_final_in, none_counted}
 
 -- the axioms are the same where learnt entries came before
 same_front : (first : List Clause) (front entries : List BookEntry) → list_all is_learnt front ≡ true → first ++ axioms_of entries ≡ first ++ axioms_of (front ++ entries)

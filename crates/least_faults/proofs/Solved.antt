@@ -6,7 +6,6 @@ use Rattle.des_net.specs.Network.{Net, IsNetwork}
 use Rattle.least_faults.proofs.Asked.{asked_explained, asked_refuted, asked_spent, begun_true, learnt_alone, none_added, true_run}
 use Rattle.least_faults.proofs.Assuming.{assumed_below, compatible}
 use Rattle.least_faults.proofs.Posing.{poses}
-use Rattle.least_faults.proofs.Putting.{same_axioms}
 use Rattle.least_faults.proofs.Staying.{belong_still, built_for}
 use Rattle.answers.specs.declared.found.Best.{Best}
 use Rattle.least_faults.specs.declared.asking.Asked.TheVariants.{Explained, Refuted, Spent}
@@ -28,6 +27,7 @@ use Rattle.sat_solve.specs.Searching.{HasAxiomVars, HasPut, IsAnswer, IsSearched
 use Rattle.sat_solve.specs.Solving.{SolverState}
 use Rattle.sat_solve.specs.declared.answer.Answer.{Answer}
 use Rattle.sat_solve.specs.declared.answer.Answer.TheVariants as solver
+use Rattle.sat_solve.proofs.Entries.{same_axioms}
 
 -- ---- the question to the solver
 

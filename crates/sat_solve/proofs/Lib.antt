@@ -19,4 +19,4 @@ mod Ordering
 mod Trying
 mod Taking
 mod Adding
-pub mod Derived
+pub mod Entries
