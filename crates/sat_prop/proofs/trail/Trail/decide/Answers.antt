@@ -17,12 +17,6 @@ overflow_cast-len c = omega (arith, c.len.ensures, (may_decide c.self.inside c.a
 pub unwrap-requires : goal.unwrap-requires
 unwrap-requires c = let r = (may_decide c.self.inside c.args.self.now c.self.view_is c.self.invariant c.args.lit c.requires.known c.requires.undecided).starts in grind (arith, common_steps)
 
-pub set-requires : goal.set-requires
-set-requires c = (may_decide c.self.inside c.args.self.now c.self.view_is c.self.invariant c.args.lit c.requires.known c.requires.undecided).value
-
-pub set-requires-2 : goal.set-requires-2
-set-requires-2 c = (may_decide c.self.inside c.args.self.now c.self.view_is c.self.invariant c.args.lit c.requires.known c.requires.undecided).known
-
 pub overflow_cast-len-2 : goal.overflow_cast-len-2
 overflow_cast-len-2 c = omega (arith, c.len-2.ensures, (may_decide c.self.inside c.args.self.now c.self.view_is c.self.invariant c.args.lit c.requires.known c.requires.undecided).place)
 

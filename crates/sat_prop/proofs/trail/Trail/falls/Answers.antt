@@ -1,11 +1,9 @@
 use Rattle.std.proofs.Common.{sym, arith}
-use Rattle.prop_core.proofs.Literals.{literal_of, has_among, true_at, open_parts}
-use Rattle.prop_core.specs.Clauses.{negation}
+use Rattle.prop_core.proofs.Literals.{literal_of, has_among}
 use Rattle.sat_prop.proofs.Falling.{never_false, false_there}
 use Rattle.sat_prop.proofs.Justifying.{justified_once}
-use Rattle.sat_prop.proofs.Links.{not_both}
 use Rattle.sat_prop.proofs.Placing.{value_some}
-use Rattle.sat_prop.proofs.Seeing.{value_agrees, value_lacks}
+use Rattle.sat_prop.proofs.Seeing.{value_agrees}
 use Rattle.sat_prop.proofs.trail.Trail.falls.Goals as goal
 
 pub place_of-requires : goal.place_of-requires
@@ -19,8 +17,3 @@ pub returns-else-value-lit : goal.returns-else-value-lit
 returns-else-value-lit c place h w e =
     let s = false_there c.args.self.now.literals c.args.lit c.place_of.result place (justified_once _ _ _ _ _ c.is_sound.ensures.state.justified) c.place_of.ensures w e in
     absurd (omega arith)
-
-pub returns-in-None : goal.returns-in-None
-returns-in-None c place h w e =
-    let o = value_lacks c.args.self.now.literals c.args.lit (sym c.in-None.ensures) in
-    absurd (not_both _ (true_at c.args.self.now.literals (negation c.args.lit) place w e) (open_parts c.args.self.now.literals c.args.lit o).1)

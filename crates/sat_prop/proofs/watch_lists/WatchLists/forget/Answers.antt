@@ -3,9 +3,6 @@ use Rattle.sat_prop.proofs.Keeping.{Becomes}
 use Rattle.sat_prop.proofs.Moving.{forgotten, walking}
 use Rattle.sat_prop.proofs.watch_lists.WatchLists.forget.Goals as goal
 
-pub unlink-self-inside-requires-clause-next : goal.unlink-self-inside-requires-clause-next
-unlink-self-inside-requires-clause-next c = (walking c.self.inside c.args.self.now c.self.view_is c.self.invariant c.requires.waits).number
-
 pub unlink-self-inside-requires-clause-before : goal.unlink-self-inside-requires-clause-before
 unlink-self-inside-requires-clause-before c = (walking c.self.inside c.args.self.now c.self.view_is c.self.invariant c.requires.waits).before
 

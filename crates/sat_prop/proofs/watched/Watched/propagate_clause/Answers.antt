@@ -1,5 +1,5 @@
 use Rattle.sat_prop.specs.View.{watched_view}
-use Rattle.sat_prop.proofs.Visiting.{IsLooked, IsLooking, literal_apart, literal_known, looked_moves, looked_stays, looking}
+use Rattle.sat_prop.proofs.Visiting.{IsLooked, IsLooking, literal_known, looked_moves, looked_stays, looking}
 use Rattle.sat_prop.proofs.watched.Watched.propagate_clause.Goals as goal
 use Rattle.sat_prop.proofs.watched.Watched.propagate_clause.Goals.{in-Stays, in-Moves}
 
@@ -8,9 +8,6 @@ moving c = looking _ _ _ _ _ c.self.view_is c.inspect-inspected.ensures.grown c.
 
 pub put-requires-clause-known : goal.put-requires-clause-known
 put-requires-clause-known c = literal_known _ _ _ _ _ (moving c) c.is_sound.ensures.state c.in-Moves.found c.in-Moves.ensures.inspected
-
-pub put-requires-clause-other : goal.put-requires-clause-other
-put-requires-clause-other c = literal_apart _ _ _ _ _ (moving c) c.is_sound.ensures.state c.in-Moves.found c.in-Moves.ensures.inspected
 
 looked : (c : goal.Joined-inspected) → IsLooked c.args.trail.now c.inspect-inspected.new.trail c.args.self.now c.match-inspected.self
 looked c =
