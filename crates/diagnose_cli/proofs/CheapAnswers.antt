@@ -1,15 +1,16 @@
 -- What `cheapest` answers where its files are read.
-use Rattle.std.proofs.Common.{◌≡◌, ◌≢◌, ◌^◌, ◌∙◌, [], ◌∷◌, ap, sym, inr, ◌≤◌, ℕ, List, Option, Some, Result, arith, subst}
+use Rattle.std.proofs.Common.{◌≡◌, ◌≢◌, ◌^◌, ◌∙◌, [], ◌∷◌, ap, sym, inr, ◌≤◌, ℕ, Bool, true, false, List, Option, Some, Result, refl, arith, subst}
+use Rattle.std.specs.Prelude.{if◌then◌else◌}
 use Rattle.cost_least.specs.Costs.{cost_size}
 use Rattle.cost_least.specs.Answers.{CostAsked, IsCheapFound, IsRunAt}
 use Rattle.answers.specs.declared.cheap.Cheap.{Cheap}
 use Rattle.answers.specs.declared.cheap.Cheap.TheVariants.{Found, Dear, Undecided}
 use Rattle.des_net.specs.Building.{IsDraft}
-use Rattle.des_net.specs.Network.{Net, IsNetwork}
+use Rattle.des_net.specs.Network.{Net, IsNetwork, is_fault}
 use Rattle.event_costs.specs.CostText.{IsTableOf, cost_of}
 use Rattle.event_costs.specs.Prices.{cost_at}
 use Rattle.inquiries.specs.declared.question.Case.{Case}
-use Rattle.pricing.specs.LeastCost.{IsPricedBy, LeavesCosts, cost_variables}
+use Rattle.pricing.specs.LeastCost.{IsPricedBy, LeavesCosts, cost_variables, fault_costs}
 use Rattle.pricing.proofs.PricedBooks.{unpriced_is_small}
 use Rattle.least_faults.proofs.KnownEvents.{run_known}
 use Rattle.log_csv.specs.LogText.{log_of}
@@ -66,11 +67,15 @@ cheap_said net log n answer network drafted logged few cost budget book priced r
 
 -- ---- the costs of the text
 
--- the table costs each event as the text does, so both are one function
-pub as_text : (net : Net) (prices : List ℕ) (table : List (Option ℕ)) → IsTableOf net prices table → cost_at table ≡ cost_of net prices
-as_text net prices table of = λ i e. of.each e i
+-- the table costs each fault event as the text does, and the text has 1 for what is none, so both are one function
+pub as_text : (net : Net) (prices : List ℕ) (table : List (Option ℕ)) → IsTableOf net prices table → fault_costs net table ≡ cost_of net prices
+as_text net prices table of = λ i e. at e (is_fault net e) refl i
+  where
+    at : (e : ℕ) (fault : Bool) → is_fault net e ≡ fault → (if fault then cost_at table e else 1) ≡ cost_of net prices e
+    at e true fault = of.each e
+    at e false none = sym (of.others e none) ∙ of.each e
 
-says_of_text : (net : Net) (prices : List ℕ) (table : List (Option ℕ)) (alarms : Log) (n budget : ℕ) (book : List BookEntry) (reply : Reply) → IsTableOf net prices table → SaysCheap net (cost_at table) alarms n budget book reply → SaysCheap net (cost_of net prices) alarms n budget book reply
+says_of_text : (net : Net) (prices : List ℕ) (table : List (Option ℕ)) (alarms : Log) (n budget : ℕ) (book : List BookEntry) (reply : Reply) → IsTableOf net prices table → SaysCheap net (fault_costs net table) alarms n budget book reply → SaysCheap net (cost_of net prices) alarms n budget book reply
 says_of_text net prices table alarms n budget book reply of = subst (λ (c : ℕ → ℕ). SaysCheap net c alarms n budget book reply) (as_text net prices table of)
 
 -- a budget that is large enough decides
@@ -88,18 +93,18 @@ module _ (n budget : ℕ) (words : List (List ℕ)) (book : List BookEntry) (cas
   abbrev priced : Task Reply
   priced = cheapest.task (record { steps = n; budget = budget })
 
-  pub closes_priced : (r : Result Reply Stop) → EndsBySize (cost_size case.net case.log n) (SaysCheap case.net (cost_at table) case.log n budget book) r → ClosesOnce priced words book texts r
+  pub closes_priced : (r : Result Reply Stop) → EndsBySize (cost_size case.net case.log n) (SaysCheap case.net (fault_costs case.net table) case.log n budget book) r → ClosesOnce priced words book texts r
   closes_priced r =
-      over_third (λ ts. ClosesOnce priced words book ts r) texts (λ net log. EndsBySize (cost_size net log n) (SaysCheap net (cost_at table) log n budget book) r) (λ net prices t. IsTableOf net prices t) table
+      over_third (λ ts. ClosesOnce priced words book ts r) texts (λ net log. EndsBySize (cost_size net log n) (SaysCheap net (fault_costs net table) log n budget book) r) (λ net prices t. IsTableOf net prices t) table
       (λ text alarms prices of.
       let net = network_of text in
       let log = log_of alarms in
-      ends_weaker (cost_size net log n) (SaysCheap net (cost_at table) log n budget book) (MayReply priced words book (text ∷ alarms ∷ prices ∷ [])) r (λ reply h.
+      ends_weaker (cost_size net log n) (SaysCheap net (fault_costs net table) log n budget book) (MayReply priced words book (text ∷ alarms ∷ prices ∷ [])) r (λ reply h.
       let says = says_of_text net prices table log n budget book reply of h in
       record { says = says; decided = cheap_decided net (cost_of net prices) log n budget book reply says })) case read
 
   -- what it leaves
-  pub prices_left : LeavesCosts case.net (cost_at table) case.log n budget book → Leaves (told_once priced) words texts book
+  pub prices_left : LeavesCosts case.net (fault_costs case.net table) case.log n budget book → Leaves (told_once priced) words texts book
   prices_left =
-      over_third (λ ts. Leaves (told_once priced) words ts book) texts (λ net log. LeavesCosts net (cost_at table) log n budget book) (λ net prices t. IsTableOf net prices t) table
+      over_third (λ ts. Leaves (told_once priced) words ts book) texts (λ net log. LeavesCosts net (fault_costs net table) log n budget book) (λ net prices t. IsTableOf net prices t) table
       (λ text alarms prices of h same. inr (subst (λ (c : ℕ → ℕ). LeavesCosts (network_of text) c (log_of alarms) n budget book) (as_text (network_of text) prices table of) h)) case read

@@ -1,11 +1,9 @@
 // The command `cheapest`: the least total cost of what explains a log.
 ghost use Rattle.std.specs.Prelude.{◌≡◌, ◌≤◌, ℕ, List, [], length, IfOk, refl};
-ghost use Rattle.cost_least.specs.Weighed.{IsOneElsewhere};
 ghost use Rattle.des_base.specs.declared.TheConstants.{MOST_STEPS};
 ghost use Rattle.diagnose_cli.specs.CheapReplies.{SaysCheap, kind_of_cheap, reply_of_cheap};
 ghost use Rattle.diagnose_cli.specs.Commands.{cheapest};
-ghost use Rattle.event_costs.specs.Prices.{cost_at};
-ghost use Rattle.pricing.specs.LeastCost.{IsPricedBy, IsWithinCosts, LeavesCosts};
+ghost use Rattle.pricing.specs.LeastCost.{IsPricedBy, IsWithinCosts, LeavesCosts, fault_costs};
 ghost use Rattle.proof_ledger.specs.Book.{BookEntry};
 ghost use Rattle.report.specs.Replies.{CheapEventsKnown};
 
@@ -79,11 +77,10 @@ fn reply_to_costs(
     book: &mut Ledger,
 ) -> Result<Reply, Memory>
     requires long { length table.now ≡ length case.now.net.events }
-    requires others { IsOneElsewhere case.now.net (cost_at table.now) }
     requires within { IsWithinCosts case.now.net case.now.log limits.steps }
     requires empty { book.old.entries ≡ [] }
-    ensures says { IfOk result (SaysCheap case.now.net (cost_at table.now) case.now.log limits.steps limits.budget book.new.entries) }
-    ensures left { LeavesCosts case.now.net (cost_at table.now) case.now.log limits.steps limits.budget book.new.entries }
+    ensures says { IfOk result (SaysCheap case.now.net (fault_costs case.now.net table.now) case.now.log limits.steps limits.budget book.new.entries) }
+    ensures left { LeavesCosts case.now.net (fault_costs case.now.net table.now) case.now.log limits.steps limits.budget book.new.entries }
 {
     let inquiry = LeastCost {
         table,

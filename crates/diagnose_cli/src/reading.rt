@@ -1,14 +1,12 @@
 // The files of a command, which are read in the order of the words. A later file may be read by what stands in the earlier ones.
 ghost use Rattle.std.specs.Prelude.{◌≡◌, ◌≢◌, ℕ, ◌+◌, ◌<◌, ◌≤◌, ⊤, List, [], ◌∷◌, ◌++◌, length, IfErr, IfOk, Option, refl};
 ghost use Rattle.std.proofs.Common.{ap, subst, sym};
-ghost use Rattle.cost_least.specs.Weighed.{IsOneElsewhere};
 ghost use Rattle.des_base.specs.CommandWords.{word_at};
 ghost use Rattle.diagnose_cli.specs.FilesRead.{AreReadAs, AreReadThen, EventsAreOf, IsCaseRead, IsFormulaRead, IsLogRead, IsModelRead, IsProofChecked, StopsAmong};
 ghost use Rattle.endings.specs.Files.{IsReadAs, StopsIn, loads};
 ghost use Rattle.endings.specs.Texts.{FileKind, cnf, costs, fault_of_costs, fault_of_log, fault_of_lrat, fault_of_run, fault_of_script, fault_of_text, limit_of, log, lrat, model, run, script};
 ghost use Rattle.endings.specs.declared.stop.FaultyText.{FaultyText};
 ghost use Rattle.event_costs.specs.CostText.{IsTableOf};
-ghost use Rattle.event_costs.specs.Prices.{cost_at};
 ghost use Rattle.log_csv.specs.ScriptText.{script_of};
 ghost use Rattle.proof_ledger.specs.Checking.{check_proof};
 ghost use Rattle.proof_text.specs.CnfText.{formula};
@@ -244,7 +242,7 @@ impl Behind<Case> for CostTable {
 
     ghost tells = { λ case prices table. IsTableOf case.net prices table };
 
-    ghost fits = { λ case table. (length table ≡ length case.net.events) × IsOneElsewhere case.net (cost_at table) };
+    ghost fits = { λ case table. length table ≡ length case.net.events };
 
     fn fetch_behind<F: Shelf>(
         alloc: Global,
@@ -371,7 +369,7 @@ impl Reading for CostedCase {
 
     ghost reads = { λ texts files. AreReadThen (λ ts (c : InquiryCase). IsCaseRead ts c.net c.log) (λ (c : InquiryCase) prices t. IsTableOf c.net prices t) texts files.case files.table };
 
-    ghost sound = { λ files. (length files.table ≡ length files.case.net.events) × IsOneElsewhere files.case.net (cost_at files.table) };
+    ghost sound = { λ files. length files.table ≡ length files.case.net.events };
 
     fn fetch<F: Shelf>(alloc: Global, words: &WordList, shelf: &mut F) -> Result<CostedCase, Stop> {
         let Then { before, last } = Then::<Case, CostTable>::fetch(alloc, words, shelf)?;

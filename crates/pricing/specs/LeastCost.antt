@@ -1,11 +1,11 @@
 -- A question of costs: what is found of the least total, and what stays of it in the book.
-use Rattle.std.specs.Prelude.{◌≡◌, ◌⊎◌, ◌<◌, ◌≤◌, ◌+◌, ◌*◌, ℕ, List, [], ◌∷◌, ◌++◌, length, map, Option}
+use Rattle.std.specs.Prelude.{◌≡◌, ◌⊎◌, ◌<◌, ◌≤◌, ◌+◌, ◌*◌, ℕ, List, [], ◌∷◌, ◌++◌, length, map, Option, if◌then◌else◌}
 use Rattle.cost_least.specs.Answers.{IsCostAnswered, IsCostLeftOpen}
 use Rattle.cost_least.specs.Costs.{cost_size}
-use Rattle.cost_least.specs.Weighed.{AreWeighedParts, IsOneElsewhere}
+use Rattle.cost_least.specs.Weighed.{AreWeighedParts}
 use Rattle.answers.specs.declared.cheap.Cheap.{Cheap}
 use Rattle.des_base.specs.declared.TheConstants.{MOST_STEPS}
-use Rattle.des_net.specs.Network.{Net}
+use Rattle.des_net.specs.Network.{Net, is_fault}
 use Rattle.des_net.specs.QuestionSize.{fault_event_count}
 use Rattle.event_costs.specs.Prices.{cost_at}
 use Rattle.event_costs.specs.declared.TheConstants.{MOST_COST}
@@ -25,12 +25,15 @@ pub record IsWithinCosts (net : Net) (log : Log) (n : ℕ) : Type 0 where
   pub steps : n ≤ MOST_STEPS
   pub size : cost_size net log n ≤ MOST_SIZE
 
--- so the question itself isn't; the table has a place for each event, and 1 for what is no fault
+-- so the question itself isn't, and the table has a place for each event
 pub record MayPrice (table : List (Option ℕ)) (net : Net) (log : Log) (n : ℕ) : Type 0 where
   pub limits : IsWithinLimits net log n
   pub costs : IsWithinCosts net log n
   pub long : length table ≡ length net.events
-  pub others : IsOneElsewhere net (cost_at table)
+
+-- what fault events cost by a table; what is none counts as 1, whatever the table has there, and no total depends on it
+abbrev pub fault_costs : Net → List (Option ℕ) → ℕ → ℕ
+fault_costs net table e = if is_fault net e then cost_at table e else 1
 
 -- a stored closure answers on the number of each event what a table holds for it
 abbrev pub AnswersTable : {C : Type 0} → (C → ℕ → ℕ → Type 0) → C → Net → List (Option ℕ) → Type 0

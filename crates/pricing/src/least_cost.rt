@@ -1,10 +1,8 @@
 // The least total cost of what explains a log, when fault events have costs, as an inquiry.
 ghost use Rattle.std.specs.Prelude.{◌≡◌, ℕ, List, length, IfOk, Option};
-ghost use Rattle.cost_least.specs.Weighed.{IsOneElsewhere};
-ghost use Rattle.event_costs.specs.Prices.{cost_at};
 ghost use Rattle.event_costs.specs.StoredCosts.{IsCost};
 ghost use Rattle.inquiries.specs.Begun.{HasBegun};
-ghost use Rattle.pricing.specs.LeastCost.{AnswersTable, IsPricedBy, IsWithinCosts, LeavesCosts, MayPrice};
+ghost use Rattle.pricing.specs.LeastCost.{AnswersTable, IsPricedBy, IsWithinCosts, LeavesCosts, MayPrice, fault_costs};
 
 use cost_least::{Cheap, cheapest};
 use des_base::Memory;
@@ -28,9 +26,9 @@ impl Inquiry for LeastCost<'_> {
 
     ghost may = { λ s net log n. MayPrice s.table.now net log n };
 
-    ghost says = { λ s net log n book cheap. IsPricedBy net (cost_at s.table.now) log n s.budget book cheap };
+    ghost says = { λ s net log n book cheap. IsPricedBy net (fault_costs net s.table.now) log n s.budget book cheap };
 
-    ghost leaves = { λ s net log n book. LeavesCosts net (cost_at s.table.now) log n s.budget book };
+    ghost leaves = { λ s net log n book. LeavesCosts net (fault_costs net s.table.now) log n s.budget book };
 
     ghost fits = { λ s net log n may. may.limits };
 
@@ -57,9 +55,8 @@ fn price<R: Fn(u32) -> u64>(
     requires begun { HasBegun R.pre R.post case.now.net case.now.log parts.old book.old.entries }
     requires limits { IsWithinCosts case.now.net case.now.log parts.old.step.steps }
     requires long { length table.now ≡ length case.now.net.events }
-    requires others { IsOneElsewhere case.now.net (cost_at table.now) }
-    ensures priced { IfOk result (IsPricedBy case.now.net (cost_at table.now) case.now.log parts.old.step.steps budget book.new.entries) }
-    ensures left { LeavesCosts case.now.net (cost_at table.now) case.now.log parts.old.step.steps budget book.new.entries }
+    ensures priced { IfOk result (IsPricedBy case.now.net (fault_costs case.now.net table.now) case.now.log parts.old.step.steps budget book.new.entries) }
+    ensures left { LeavesCosts case.now.net (fault_costs case.now.net table.now) case.now.log parts.old.step.steps budget book.new.entries }
 {
     let costs = Costs::new(&case.net, |event: u32| table.cost(event));
     price_by(alloc, case, parts, &costs, budget, book)
@@ -78,8 +75,8 @@ fn price_by<C: Fn(u32) -> u32, R: Fn(u32) -> u64>(
     requires net { costs.now.net ≡ case.now.net }
     requires begun { HasBegun R.pre R.post case.now.net case.now.log parts.old book.old.entries }
     requires limits { IsWithinCosts case.now.net case.now.log parts.old.step.steps }
-    ensures priced { (table : List (Option ℕ)) → AnswersTable C.post costs.now.cost case.now.net table → IsOneElsewhere case.now.net (cost_at table) → IfOk result (IsPricedBy case.now.net (cost_at table) case.now.log parts.old.step.steps budget book.new.entries) }
-    ensures left { (table : List (Option ℕ)) → AnswersTable C.post costs.now.cost case.now.net table → IsOneElsewhere case.now.net (cost_at table) → LeavesCosts case.now.net (cost_at table) case.now.log parts.old.step.steps budget book.new.entries }
+    ensures priced { (table : List (Option ℕ)) → AnswersTable C.post costs.now.cost case.now.net table → IfOk result (IsPricedBy case.now.net (fault_costs case.now.net table) case.now.log parts.old.step.steps budget book.new.entries) }
+    ensures left { (table : List (Option ℕ)) → AnswersTable C.post costs.now.cost case.now.net table → LeavesCosts case.now.net (fault_costs case.now.net table) case.now.log parts.old.step.steps budget book.new.entries }
 {
     let cheap = cheapest(alloc, &case.net, &case.log, parts, costs, book, budget);
     book.entries();
