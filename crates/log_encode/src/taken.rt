@@ -6,7 +6,7 @@ ghost use Rattle.log_encode.specs.Written.{rest_variable, taken_from, end_after,
 use crate::alarm_vars::AlarmVars;
 use des_base::{EventId, Memory, Name, VAR_LIMIT};
 use des_net::Network;
-use label_sets::LabelSet;
+use replay::LabelSet;
 use prop_core::Grid;
 use std::alloc::Global;
 

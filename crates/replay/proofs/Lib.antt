@@ -14,3 +14,4 @@ pub mod AnswerLemmas
 mod Vectors
 mod ReplayVectors
 mod SizeVectors
+pub mod LabelMarks

@@ -8,3 +8,4 @@ pub mod Replayed
 pub mod Deciding
 pub mod Placed
 pub mod QuestionSize
+pub mod LabelPlaces

@@ -9,8 +9,8 @@ ghost use Rattle.replay.specs.QuestionSize.{matching_count, alarm_sizes, doubtfu
 
 use des_base::EventId;
 use des_net::Network;
-use label_sets::LabelSet;
 use log_order::AlarmLog;
+use replay::LabelSet;
 
 /// For each alarm, the square of the events that it may stand for, and one.
 #[tactic(auto, using(des_base::proofs::NumbersBelow::sum_numbers_more))]

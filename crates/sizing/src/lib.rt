@@ -1,4 +1,4 @@
-//! How large a question is.
+//! How large a question is: beside what writes one, so that a question is refused by its size before anything of it is written.
 //!
 //! The size of a question ([`question_size`]) is known before any clause is written, without memory, so that one that is too large is
 //! refused at once. It is the number `question_size` of the definitions beside the replay of runs: in each step the squares of what

@@ -1,4 +1,5 @@
-//! Items are told one after another, each with the text that it has, which is put before the next one is taken.
+//! Items are told one after another, each with the text that it has, which is put before the next one is taken: below the texts of
+//! replies and the endings of commands, both of which stand on it.
 //!
 //! - A [`Teller`] goes on from stage to stage. Its `goes` says what the text of an item means between two stages, and its `undone`
 //!   what may be left where it ran out of memory.

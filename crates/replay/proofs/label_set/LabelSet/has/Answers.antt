@@ -2,8 +2,8 @@
 use Rattle.std.proofs.Common.{◌∙◌, ap, sym, get_or, bytes_eq, ℕ, Bool, false, List}
 use Rattle.std.specs.Prelude.{◌&&◌}
 use Rattle.std.specs.List.{list_any}
-use Rattle.label_sets.proofs.Marked.{sifted}
-use Rattle.label_sets.proofs.label_set.LabelSet.has.Goals as goal
+use Rattle.replay.proofs.LabelMarks.{sifted}
+use Rattle.replay.proofs.label_set.LabelSet.has.Goals as goal
 
 pub returns-else-self-mark_place : goal.returns-else-self-mark_place
 returns-else-self-mark_place c =

@@ -1,7 +1,7 @@
 -- what comes leads from here to the label's place
 use Rattle.std.proofs.Common.{◌≡◌, ◌<◌, drop}
-use Rattle.label_sets.specs.Places.{place_after, mark_place}
-use Rattle.label_sets.proofs.label_set.mark_place.Given as goal
+use Rattle.replay.specs.LabelPlaces.{place_after, mark_place}
+use Rattle.replay.proofs.label_set.mark_place.Given as goal
 
 abbrev pub invariant-loop-byte : goal.invariant-loop-byte
 invariant-loop-byte l = record {

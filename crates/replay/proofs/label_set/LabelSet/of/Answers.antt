@@ -1,8 +1,8 @@
 -- Each label marks its place.
 use Rattle.std.proofs.Common.{◌+◌, arith, set, subst, sym, true}
-use Rattle.label_sets.specs.Places.{HaveMarks}
-use Rattle.label_sets.proofs.Marked.{marked_more}
-use Rattle.label_sets.proofs.label_set.LabelSet.of.Goals as goal
+use Rattle.replay.specs.LabelPlaces.{HaveMarks}
+use Rattle.replay.proofs.LabelMarks.{marked_more}
+use Rattle.replay.proofs.label_set.LabelSet.of.Goals as goal
 
 pub loop-label-preserved : goal.loop-label-preserved
 loop-label-preserved c =

@@ -1,7 +1,7 @@
 // A set of labels.
 ghost use Rattle.std.specs.Prelude.{◌≡◌, ◌<◌, bytes_eq, length};
 ghost use Rattle.std.specs.List.{list_any};
-ghost use Rattle.label_sets.specs.Places.{mark_place};
+ghost use Rattle.replay.specs.LabelPlaces.{mark_place};
 ghost use Rattle.replay.specs.Explanation.{has_any_label};
 
 use des_base::{EventId, Name};
@@ -21,7 +21,7 @@ pub struct LabelSet<'a> {
 
 impl<'a> Model for LabelSet<'a> {
     ghost use Rattle.std.specs.Prelude.{List, ℕ, length};
-    ghost use Rattle.label_sets.specs.Places.{HaveMarks};
+    ghost use Rattle.replay.specs.LabelPlaces.{HaveMarks};
 
     ghost Value = { List (List ℕ) };
 

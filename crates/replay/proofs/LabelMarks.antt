@@ -5,7 +5,7 @@ use Rattle.std.specs.List.{list_any}
 use Rattle.std.proofs.lemmas.Bool.{cases_eq}
 use Rattle.std.proofs.lemmas.List.{get_or_default}
 use Rattle.std.proofs.lemmas.Slice.Eq.{bytes_eq-Decides}
-use Rattle.label_sets.specs.Places.{mark_place, HaveMarks}
+use Rattle.replay.specs.LabelPlaces.{mark_place, HaveMarks}
 
 -- there is a mark at the label's place
 abbrev marked : List Bool → List ℕ → Bool
