@@ -1,4 +1,4 @@
-"""Looks whether each edit of more-edits/ can still be applied: each of its old texts stands once in its file, and one of them at least is code.
+"""Looks whether each edit beside the gate can still be applied: each of its old texts stands once in its file, and one of them at least is code.
 
     python3 check/applies.py
 
@@ -9,6 +9,9 @@ import glob
 import os
 import re
 import sys
+
+sys.dont_write_bytecode = True
+from edits import beside_the_gate  # noqa: E402
 
 TOP = os.path.dirname(os.path.dirname(os.path.abspath(__file__)))
 # How a line of a contract begins.
@@ -21,13 +24,10 @@ def is_code(path, text, old):
     return path.startswith("src/") and not CONTRACT.match(text, line)
 
 
-def why_not(edit):
-    """Why an edit can't be applied, or None."""
-    crate = os.path.dirname(os.path.dirname(edit))
+def why_not(crate, edit):
+    """Why an edit of a crate can't be applied, or None."""
     texts, path, old, pairs, of_code = {}, None, None, 0, False
-    with open(edit, encoding="utf-8") as it:
-        lines = it.read().split("\n")
-    for line in lines:
+    for line in edit.split("\n"):
         if line.startswith("file: "):
             path = line[len("file: "):].strip()
             if not os.path.isfile(os.path.join(crate, path)):
@@ -51,10 +51,10 @@ def why_not(edit):
 
 
 def main():
-    edits = sorted(glob.glob(f"{TOP}/crates/*/more-edits/*"))
-    lost = [(edit, why) for edit in edits for why in [why_not(edit)] if why]
-    for edit, why in lost:
-        print(f"{os.path.relpath(edit, TOP)}: {why}")
+    edits = [(crate, *it) for crate in sorted(glob.glob(f"{TOP}/crates/*")) for it in beside_the_gate(crate)]
+    lost = [(path, name, why) for crate, path, name, text in edits for why in [why_not(crate, text)] if why]
+    for path, name, why in lost:
+        print(f"{os.path.relpath(path, TOP)}: {name}: {why}")
     print(f"{len(edits)} edits stand beside the gate, of which {len(lost)} can't be applied, or change no code")
     return 1 if lost else 0
 

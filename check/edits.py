@@ -1,6 +1,8 @@
-"""Tries must-fail edits: those of must-fail/, which the gate tries too, and those of more-edits/, which it doesn't.
+"""Tries must-fail edits: those of must-fail/, which the gate tries too, and those beside the gate, which it doesn't.
 
     sh check/edits.sh [--since COMMIT] [CRATE..]
+
+The edits beside the gate stand in more-edits.txt of their crate, each behind a line `# NAME`, or in more-edits/, each in a file of its own.
 
 It tries those of the crates that are named, or of all; with --since only those of crates of which a file changed since the commit,
 or a file of a crate below. It works on a copy, by the command that tries edits alone (rt must-fail), which begins with what checks on
@@ -27,6 +29,7 @@ TOP = os.path.dirname(os.path.dirname(os.path.abspath(__file__)))
 KEPT = os.path.join(TOP, "check", "out", "refused")
 PROVED = ("src", "specs", "proofs")
 TRIED = ("must-fail", "more-edits")
+PACKED = "more-edits.txt"
 # What the command says of an edit.
 VERDICT = re.compile(r"rt: must-fail ([^/\s]+)/([^/\s]+\.edit): (refused, as it must be|NOT REFUSED|BAD EDIT|NOT TRIED)(.*)")
 # A refusal that says little of the contract.
@@ -37,11 +40,36 @@ class Unready(Exception):
     """Why it can't begin."""
 
 
+def unpacked(path):
+    """The edits of a file more-edits.txt: the name of each, and its text."""
+    with open(path, encoding="utf-8") as it:
+        blocks = re.split(r"^# (\w+)\n", it.read(), flags=re.M)
+    return [(name, text.rstrip("\n") + "\n") for name, text in zip(blocks[1::2], blocks[2::2])]
+
+
+def beside_the_gate(crate):
+    """The edits in a crate's folder that the gate doesn't try: the file of each, its name and its text."""
+    for path in sorted(glob.glob(f"{crate}/more-edits/*")):
+        with open(path, encoding="utf-8") as it:
+            yield path, os.path.basename(path).removesuffix(".edit"), it.read()
+    if os.path.isfile(f"{crate}/{PACKED}"):
+        for name, text in unpacked(f"{crate}/{PACKED}"):
+            yield f"{crate}/{PACKED}", name, text
+
+
 def copied(room):
-    """Copies what the command reads into a folder."""
+    """Copies what the command reads into a folder. Each edit has a file of its own there."""
     shutil.copytree(os.path.join(TOP, "crates"), os.path.join(room, "crates"), ignore=shutil.ignore_patterns("out"))
     for name in ["crates.txt", "HANDLES"]:
         shutil.copy(os.path.join(TOP, name), room)
+    for path in glob.glob(f"{room}/crates/*/{PACKED}"):
+        folder = os.path.join(os.path.dirname(path), "more-edits")
+        os.makedirs(folder, exist_ok=True)
+        for name, text in unpacked(path):
+            if os.path.exists(f"{folder}/{name}.edit"):
+                raise Unready(f"{os.path.relpath(path, room)} has two edits {name}")
+            with open(f"{folder}/{name}.edit", "w", encoding="utf-8") as it:
+                it.write(text)
 
 
 def crates_below(room):
@@ -92,7 +120,7 @@ def changed_since(commit, below):
     """The crates of which a file changed since the commit, or one of a crate below."""
     paths = git("diff", "--name-only", commit, "--", "crates").split("\n")
     paths += git("ls-files", "--others", "--exclude-standard", "--", "crates").split("\n")
-    touched = {(parts[1], parts[2] in TRIED) for parts in [path.split("/") for path in paths] if len(parts) > 3 and parts[2] in PROVED + TRIED}
+    touched = {(parts[1], parts[2] not in PROVED) for parts in [path.split("/") for path in paths] if len(parts) > 2 and parts[2] in PROVED + TRIED + (PACKED,)}
     # (those of crates.txt that are written otherwise now)
     old = {line.split("#")[0].strip() for line in git("show", f"{commit}:crates.txt").split("\n")}
     with open(os.path.join(TOP, "crates.txt"), encoding="utf-8") as it:

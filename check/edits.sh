@@ -1,5 +1,5 @@
 #!/bin/sh
-# Tries must-fail edits, those of must-fail/ and those of more-edits/, and says of each whether the check refuses it.
+# Tries must-fail edits, those of must-fail/ and those beside the gate, and says of each whether the check refuses it.
 #
 #     sh check/edits.sh [--since COMMIT] [CRATE..]
 #
