@@ -7,7 +7,8 @@ files of a plant and answers.txt; with no FOLDER all in cases/ are run. answers.
 program prints on these words (as a shell reads them, redirections too), a line `status N`, and an empty line; lines before a `$` are
 comments. The commands run one after another in a copy of the folder, where make.py, if there is one, has made further files; its variable TOP is the
 top of the repository. So a command may read what an earlier one wrote by a redirection, and nothing else is written there. A line `...` stands for
-whatever lines the program prints there. With --tell the transcript of what the program answers is printed, and nothing is compared.
+whatever lines the program prints there. A short file may stand among the comments: a line `@ NAME`, and behind it the lines of the file, each with `| ` before it. With
+--tell the transcript of what the program answers is printed, and nothing is compared.
 
 Status 0: every answer is the one that is written down, 1: some isn't, 2: it could not begin.
 """
@@ -22,6 +23,8 @@ HERE = os.path.dirname(os.path.abspath(__file__))
 SECONDS = 120
 # What stands between a command and the next one.
 STATUS = re.compile(rb"status (\d+)\n")
+# A file that stands among the comments: its name, and its lines.
+WRITTEN = re.compile(rb"^@ (\S+)\n((?:\|(?: .*)?\n)*)", re.M)
 
 
 class Faulty(Exception):
@@ -75,10 +78,22 @@ def fits(wanted, answer):
     return re.fullmatch(rb"(?:.*\n)*".join(re.escape(piece) for piece in pieces), answer) is not None
 
 
+def written(folder):
+    """The files that stand in the transcript: the name of each, and its text."""
+    # (among the comments, since an answer may have such lines too)
+    comments = b"".join(comment for comment, _, _ in rows(folder))
+    return [(name.decode(), b"".join(line[2:] or b"\n" for line in lines.splitlines(True))) for name, lines in WRITTEN.findall(comments)]
+
+
 def prepared(folder, room):
-    """A copy of the folder, with the files that make.py makes."""
+    """A copy of the folder, with the files that stand in the transcript, and those that make.py makes."""
     at = os.path.join(room, "case")
     shutil.copytree(folder, at)
+    for name, text in written(folder):
+        if os.path.exists(os.path.join(at, name)):
+            raise Faulty(f"there are two files {name}, and one of them stands in answers.txt")
+        with open(os.path.join(at, name), "wb") as it:
+            it.write(text)
     if os.path.isfile(os.path.join(at, "make.py")):
         made = subprocess.run([sys.executable, "make.py"], cwd=at, env={**os.environ, "TOP": os.path.dirname(HERE)})
         if made.returncode:
