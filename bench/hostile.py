@@ -58,6 +58,11 @@ import time
 
 HERE = os.path.dirname(os.path.abspath(__file__))
 CASES = os.path.join(HERE, "..", "cases")
+# (a folder in cases/ is taken for a case)
+sys.dont_write_bytecode = True
+sys.path.insert(0, CASES)
+import run as cases  # noqa: E402
+
 # What a run may use: seconds of the processor, and memory, past which the program has no more to take.
 SECONDS, GIBIBYTES = 120, 8
 MOST = 2**24
@@ -171,14 +176,22 @@ def told(program, words, folder):
 def pool(program, folder, kind):
     """The well-formed texts of this kind in the cases."""
     found = []
-    for path in sorted(glob.glob(os.path.join(CASES, "*", f"*{ENDS[kind]}"))):
-        if os.path.getsize(path) < 20_000:
-            with open(path, "rb") as it:
-                text = it.read()
+    for text in texts_of_cases(ENDS[kind]):
+        if len(text) < 20_000:
             put(os.path.join(folder, TEXT), lambda: [text])
             if told(program, READERS[kind][0], folder)[0] not in [5, 6, 7]:
                 found.append(text)
     return found
+
+
+def texts_of_cases(end):
+    """The files of the cases whose names have this end: those in the folders, and those in the transcripts."""
+    for folder in sorted(glob.glob(os.path.join(CASES, "*", ""))):
+        for path in sorted(glob.glob(f"{folder}*{end}")):
+            yield cases.read(path)
+        for name, text in cases.written(folder):
+            if name.endswith(end):
+                yield text
 
 
 def bytes_drawn(draw, kind):
