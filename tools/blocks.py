@@ -1,19 +1,23 @@
 """Writes a model from a text in which blocks of lines repeat, with indices in their names.
 
-    python3 tools/blocks.py TEXT [NAME=WORD ..]
+    python3 tools/blocks.py [--finer] TEXT [NAME=WORD ..]
 
 TEXT is a text of blocks; with `-` it is read from standard input. It has the lines of a model and five more: `blocks 1` at its head, `let NAME WORD`, `for NAME FROM TO`
 .. `end`, `block NAME PARAMETER ..` .. `end`, and `use BLOCK WORD ..`. Braces in a word stand for a value: a name, or a sum of names and numbers with + - * / % and parentheses.
 NAME=WORD sets the value of a `let` anew. docs/blocks.md explains the language. What is printed is a model in its plain form, as `show` prints it, without a mistake; or else nothing is
-printed, and standard error says which line is wrong, why, and with which values. This script is no part of what is proved.
+printed, and standard error says which line is wrong, why, and with which values. With --finer it is the model as tools/refine.py writes it, which is answered sooner. This script is no part of what is proved.
 
 Status 0: the model was printed, 2: the call is wrong, 5: the text has a mistake.
 """
 import ast
 import operator
+import os
 import re
 import signal
 import sys
+
+sys.path.insert(0, os.path.dirname(os.path.abspath(__file__)))
+from refine import refined_text  # noqa: E402
 
 NAME = re.compile(r"[A-Za-z0-9_-]{1,64}")
 VALUE = re.compile(r"[A-Za-z_][A-Za-z0-9_]*")
@@ -334,6 +338,7 @@ def model_of(text, given=()):
 
 
 def main(words):
+    is_finer, words = words[:1] == ["--finer"], [it for place, it in enumerate(words) if place or it != "--finer"]
     if not words or any("=" not in it for it in words[1:]):
         sys.stderr.write(__doc__)
         return 2
@@ -348,7 +353,7 @@ def main(words):
     except Wrong as wrong:
         print(f"{words[0]}, {wrong}", file=sys.stderr)
         return 5
-    sys.stdout.write(model)
+    sys.stdout.write(refined_text(model) if is_finer else model)
     return 0
 
 

@@ -1,13 +1,16 @@
-"""Tries what tools/blocks.py writes of small texts, and what it says of texts with a mistake.
+"""Tries what tools/blocks.py writes of small texts, what it says of texts with a mistake, and that with --finer it writes the texts of examples/blocks as tools/refine.py does what it writes without.
 
     python3 tools/blocks_test.py
 
 Status 0: all is as it should be, 1: something isn't.
 """
+import glob
 import os
+import subprocess
 import sys
 
-sys.path.append(os.path.join(os.path.dirname(os.path.dirname(os.path.abspath(__file__))), "tools"))
+TOP = os.path.dirname(os.path.dirname(os.path.abspath(__file__)))
+sys.path.append(os.path.join(TOP, "tools"))
 from blocks import Wrong, model_of  # noqa: E402
 
 PART = "component p\nstate a init\nstate b\ntrans a go b\n"
@@ -74,6 +77,18 @@ def said(text, given=()):
         return str(wrong)
 
 
+def called(tool, *words, given=None):
+    return subprocess.run([sys.executable, os.path.join(TOP, "tools", tool), *words], input=given, stdout=subprocess.PIPE, text=True, check=True).stdout
+
+
+def not_finer():
+    """The texts of examples/blocks that --finer writes otherwise than refine.py, or as they are."""
+    for path in sorted(glob.glob(os.path.join(TOP, "examples", "blocks", "*.blocks"))):
+        plain, finer = called("blocks.py", path), called("blocks.py", "--finer", path)
+        if finer != called("refine.py", "-", given=plain) or finer.count("\ncomponent ") <= plain.count("\ncomponent "):
+            yield path
+
+
 def main():
     tried = [("blocks 1\n" + text, (), "des 1\n" + model) for text, model in WRITTEN]
     tried += [(text if whole else "blocks 1\n" + text, (), words) for text, words, *whole in WRONG]
@@ -85,6 +100,9 @@ def main():
         if answer != wanted:
             wrong += 1
             print(f"of the text\n{text}it should be\n{wanted}\nand it is\n{answer}")
+    for path in not_finer():
+        wrong += 1
+        print(f"{path} isn't written finer as it should be")
     print(f"{len(tried)} texts of blocks, of which {wrong} give something else than they should")
     return 1 if wrong else 0
 
