@@ -1,9 +1,10 @@
 """Times `diagnose` on plants that the program or these scripts make, beside an earlier program and CaDiCaL's library, and prints a table of questions and one of means by family.
 
-    python3 bench/diagnose.py PROGRAM [--earlier EARLIER] [FAMILY..]
+    python3 bench/diagnose.py PROGRAM [--earlier EARLIER] [--refined] [--seconds] [FAMILY..]
 
 PROGRAM is the program as `rt run` builds it, crates/diagnose_cli/out/diagnose_cli, and EARLIER one of another commit. With families it asks only the questions of these (`torus`, `"equal alarms"`).
 Where CaDiCaL's library is installed (Debian: libcadical-dev), and a C++ compiler, it is timed on the formulas for all bounds up to the answer, one after another (`ascending.cpp`), unless more than 30 faults are needed.
+With --refined the program is asked about the model as tools/refine.py writes it as well (docs/scripts.md, *A finer model*). With --seconds neither clauses nor first runs are counted, which takes a fifth of the time.
 Who has no answer after 20 seconds of the processor is late. It's no part of the gate, and takes some twenty minutes where nothing else is done.
 
 A question's row has the seconds of the processor for the whole `diagnose` (for the library those of the search alone), MiB at the peak (17 or less say nothing), the clauses that are learnt, the faults of the run that is found first, and the answer. How many clauses are learnt
@@ -66,6 +67,9 @@ from measure import spent, timed
 from meshes import mesh
 from plants import adder, drawn, protection, telecom, torus
 
+sys.path.append(os.path.join(os.path.dirname(os.path.dirname(os.path.abspath(__file__))), "tools"))
+from refine import refined_text  # noqa: E402
+
 UNITS = [12, 20, 40, 64, 100, 200]
 LAMPS = [50, 100, 200, 400]
 MOST_ASCENDED = 30
@@ -83,8 +87,10 @@ TIMED, LEAST = 0.03, 0.001
 TOLD = 20
 # What a program says of a question: `mib` at the peak, `first` the faults of the run that it finds first.
 Told = namedtuple("Told", ["seconds", "mib", "answer", "clauses", "first"])
-# What is said of a question by the program, by the earlier one, and by the library: its seconds, and whether it answered.
-Row = namedtuple("Row", ["family", "name", "steps", "now", "earlier", "library"])
+# What is said of a question by the program, by the earlier one, by the program about the refined model, and by the library: its seconds, and whether it answered.
+Row = namedtuple("Row", ["family", "name", "steps", "now", "earlier", "refined", "library"])
+# What is asked besides.
+Asked = namedtuple("Asked", ["is_refined", "has_counts"])
 # The heads of the means.
 MEANS = ["Family", "Questions", "Seconds to CaDiCaL's library's", "the worst", "to the earlier program's", "MiB to the earlier program's", "the worst", "Clauses", "earlier"]
 MEANS += ["Faults of first runs", "earlier", "least", "Not answered: now, earlier, CaDiCaL's library"]
@@ -287,26 +293,35 @@ def ascended(program, path, files, steps, faults):
     return float(out.split()[1]), status == 0
 
 
-def told(program, files, steps):
+def told(program, files, steps, has_counts):
     """What one program says of a question. Where it answers soon it is timed a second time, and its clauses are counted."""
     seconds, memory, line = asked(program, files, steps, BUDGET)
     reply = replies(program, files, steps)
     if seconds <= COUNTED:
         seconds = min(seconds, asked(program, files, steps, BUDGET)[0])
-    return Told(seconds, memory, line, learnt(reply) if seconds <= COUNTED else None, first_run(reply))
+    return Told(seconds, memory, line, learnt(reply) if has_counts and seconds <= COUNTED else None, first_run(reply) if has_counts else None)
 
 
-def rows(programs, cadical, folder, families):
-    """What is said of each question by the program, by the earlier one, if any, and by the library."""
+def finer(folder, files):
+    """The files of the question about the refined model."""
+    path = os.path.join(folder, "finer.des")
+    with open(files[0], encoding="ascii") as model, open(path, "w", encoding="ascii") as it:
+        it.write(refined_text(model.read()))
+    return [path, files[1]]
+
+
+def rows(programs, cadical, folder, families, extra):
+    """What is said of each question by the program, by the earlier one, if any, about the refined model, and by the library."""
     for family, name, steps, model, log in questions(programs[0]):
         if families and family.split(",")[0] not in families:
             continue
         files = written(folder, model, log)
-        each = [told(program, files, steps) for program in programs]
-        known = [faults_of(it.answer) if is_answer(it.answer) else it.first for it in each]
+        each = [told(program, files, steps, extra.has_counts) for program in programs]
+        other = told(programs[0], finer(folder, files), steps, False) if extra.is_refined else None
+        known = [faults_of(it.answer) if is_answer(it.answer) else it.first for it in [*each, *[other] * extra.is_refined]]
         faults = min([it for it in known if it is not None], default=0)
         third = ascended(programs[0], cadical, files, steps, faults) if cadical and faults <= MOST_ASCENDED else None
-        yield Row(family, name, steps, each[0], each[1] if each[1:] else None, third)
+        yield Row(family, name, steps, each[0], each[1] if each[1:] else None, other, third)
 
 
 def shown(value, form="{}"):
@@ -316,17 +331,17 @@ def shown(value, form="{}"):
 def cells(row):
     """A question's row."""
     both = [it for it in [row.now, row.earlier] if it]
-    seconds = [f"{it.seconds:.2f}" if is_answer(it.answer) else "late" for it in both]
+    seconds = [f"{it.seconds:.2f}" if is_answer(it.answer) else "late" for it in both + [row.refined] * bool(row.refined)]
     seconds += [f"{row.library[0]:.2f}" if row.library[1] else "late"] if row.library else [""]
     numbers = [f"{it.mib:.0f}" for it in both] + [shown(it.clauses) for it in both] + [shown(it.first) for it in both]
     return [row.family, row.name, str(row.steps)] + seconds + numbers + [row.now.answer]
 
 
-def heads(has_earlier):
+def heads(has_earlier, is_refined):
     """The heads of the questions' rows."""
     names = [["Seconds", "earlier"], ["MiB", "earlier"], ["Clauses", "earlier"], ["First run", "earlier"]]
     both = [pair[:1 + has_earlier] for pair in names]
-    return ["Family", "Plant", "Steps"] + both[0] + ["CaDiCaL's library"] + sum(both[1:], []) + ["Answer"]
+    return ["Family", "Plant", "Steps"] + both[0] + ["refined"] * is_refined + ["CaDiCaL's library"] + sum(both[1:], []) + ["Answer"]
 
 
 def mean(values):
@@ -353,6 +368,22 @@ def ratios(group):
     both = [(row.now, row.earlier) for row in group if row.earlier and is_answer(row.now.answer) and is_answer(row.earlier.answer)]
     memory = [now.mib / earlier.mib for now, earlier in both if max(now.mib, earlier.mib) >= TOLD]
     return [[it for it in each if it is not None] for each in [beside, before, memory]]
+
+
+def refinements(all_rows):
+    """Prints the means of the refined models by family, and over all families."""
+    print("\n| Family | Questions | Refined, seconds to CaDiCaL's library's | the worst | to those of the model as written | the worst | Not answered |\n" + "|---" * 7 + "|")
+    groups, columns = {}, []
+    for row in all_rows:
+        groups.setdefault(row.family, []).append(row)
+    for family, group in groups.items():
+        pairs = [[compared(answered(row.refined), it) for row, it in zip(group, some) if it] for some in [[row.library for row in group], [answered(row.now) for row in group]]]
+        ratio = [[it for it in each if it is not None] for each in pairs]
+        columns.append([mean(it) for it in ratio])
+        numbers = [number for it in ratio for number in (mean(it), max(it, default=None))]
+        print("| " + " | ".join([family, str(len(group))] + [shown(it, "{:.2f}") for it in numbers] + [str(sum(not is_answer(row.refined.answer) for row in group))]) + " |")
+    over = [mean([it for it in column if it is not None]) for column in zip(*columns)]
+    print(f"| all | {len(all_rows)} | {shown(over[0], '{:.2f}')} | | {shown(over[1], '{:.2f}')} | | {sum(not is_answer(row.refined.answer) for row in all_rows)} |")
 
 
 def counted(group):
@@ -396,18 +427,23 @@ def summary(all_rows):
     line = ["all", str(len(all_rows)), shown(over[0], "{:.2f}"), "", shown(over[1], "{:.2f}"), shown(over[2], "{:.2f}"), "", "", ""]
     print("| " + " | ".join(line + [shown(it) for it in summed(triples)] + [late(all_rows)]) + " |")
     of_some = mean([max(first, 1) / least for first, _, least in triples if least > 0])
-    print(f"\nThe first run has {shown(of_some, '{:.2f}')} times the least number of faults, in the geometric mean over the questions that need one.")
+    if of_some is not None:
+        print(f"\nThe first run has {shown(of_some, '{:.2f}')} times the least number of faults, in the geometric mean over the questions that need one.")
 
 
 def main(folder, program, *words):
-    earlier = [words[1]] if words[:1] == ("--earlier",) else []
+    extra = Asked("--refined" in words, "--seconds" not in words)
+    words = [it for it in words if it not in ("--refined", "--seconds")]
+    earlier = [words[1]] if words[:1] == ["--earlier"] else []
     cadical = library(folder)
-    kept = []
-    print("| " + " | ".join(heads(bool(earlier))) + " |\n" + "|---" * len(heads(bool(earlier))) + "|")
-    for row in rows([program] + earlier, cadical, folder, words[2:] if earlier else words):
+    kept, names = [], heads(bool(earlier), extra.is_refined)
+    print("| " + " | ".join(names) + " |\n" + "|---" * len(names) + "|")
+    for row in rows([program] + earlier, cadical, folder, words[2:] if earlier else words, extra):
         kept.append(row)
         print("| " + " | ".join(cells(row)) + " |", flush=True)
     summary(kept)
+    if extra.is_refined:
+        refinements(kept)
 
 
 if __name__ == "__main__":
