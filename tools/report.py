@@ -167,7 +167,7 @@ class Page:
         lines = ["<h2>What may have happened</h2>",
                  f"<p>A run of the plant that explains the log{kind}, in {plural(steps, 'parallel step')}. It has {escape(self.words.named(drawn.run))}.</p>",
                  self.pictures(drawn.run, "run", "The run that was found", f'<p class="small">{timeline.KEY} Events that move no common component may share a step. '
-                               "When things happened within the run isn't certain, even where the fault is.</p>\n")]
+                               "Even if a fault is certain, when it happened isn't.</p>\n")]
         if others:
             lines.append("<h3>Other runs with the fewest faults</h3>")
             few = f"{sentence(word(len(others)))[:-1]} {'more runs' if len(others) > 1 else 'more run'} with as few faults{' as possible' * self.is_least}"

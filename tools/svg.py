@@ -36,9 +36,12 @@ def page(title, heading, inside):
     return f"""<!doctype html>
 <html lang="en">
 <meta charset="utf-8">
+<meta name="viewport" content="width=device-width, initial-scale=1">
 <title>{escape(title)}</title>
-<body style="font: 14px sans-serif; margin: 24px; color: #222">
+<body style="font: 14px sans-serif; margin: 24px; color: #222; background: #fff">
 <h1 style="font-size: 20px">{escape(heading)}</h1>
+<div style="overflow-x: auto">
 {inside}
+</div>
 </body>
 </html>"""
