@@ -115,7 +115,8 @@ def svg(rooms, stands):
     top, wide = max(level[name] for name in crates), max(at[name] + widths[name] / 2 for name in crates) + GAP
     row = {name: (top - level[name]) * ROW + GAP for name in crates}
     high = top * ROW + len(rooms) * 18
-    out = [f'<svg xmlns="http://www.w3.org/2000/svg" viewBox="0 0 {wide:.0f} {high}" font-family="Helvetica, Arial, sans-serif" font-size="12">']
+    out = [f'<svg xmlns="http://www.w3.org/2000/svg" viewBox="0 0 {wide:.0f} {high}" role="img" font-family="Helvetica, Arial, sans-serif" font-size="12">',
+           "  <title>Which crate stands on which</title>", f'  <rect width="{wide:.0f}" height="{high}" fill="#ffffff"/>']
     for name in crates:
         for it in near[name]:
             low, x, y, to = row[it], at[name], row[name] + BOX, at[it]
@@ -125,6 +126,8 @@ def svg(rooms, stands):
             if not is_test(name):
                 out.append(f'  <rect x="{at[name] - widths[name] / 2:.0f}" y="{row[name]}" width="{widths[name]:.0f}" height="{BOX}" rx="4" fill="{COLOURS[number]}" stroke="#666666" stroke-width="0.6"/>')
                 out.append(f'  <text x="{at[name]:.0f}" y="{row[name] + 16}" text-anchor="middle">{name}</text>')
+    for name in base:
+        out.append(f'  <text x="{at[name] + widths[name] / 2 + 10:.0f}" y="{row[name] + 16}" fill="#555555">on which all stand</text>')
     for number, (head, room) in enumerate(rooms):
         if not all(is_test(name) for name in room):
             y = top * ROW + number * 18
