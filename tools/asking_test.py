@@ -16,9 +16,10 @@ import tempfile
 TOOLS = os.path.dirname(os.path.abspath(__file__))
 TOP = os.path.dirname(TOOLS)
 sys.path.insert(0, TOOLS)
-from program import Late, Program, Refused, Step, Text  # noqa: E402
+from program import Late, Program, Refused, Step, Text, lines_of, replies_of  # noqa: E402
 
 FIRST = "examples/first/model.des examples/first/log.csv".split()
+PUMP = "examples/tutorial/model.des"
 # Words of a shell call of program.py, and the object that is printed, with its status.
 OBJECTS = [
     (["diagnose", *FIRST, "3", "1000"], {"status": 0, "kind": "EXPLAINED", "least": 1, "most": 1, "run": [{"event": "clog"}, {"event": "strained", "alarm": "a2"}, {"event": "blocked", "alarm": "a1"}]}, 0),
@@ -26,8 +27,29 @@ OBJECTS = [
     (["diagnose", *FIRST, "03", "1000"], {"status": 2, "kind": "USAGE", "words": []}, 2),
     (["diagnose", *FIRST], {"status": 2, "kind": "USAGE", "words": []}, 2),
     (["diagnose", "examples/tutorial/misspelled.des", FIRST[1], "3", "1000"], {"status": 5, "kind": "MODEL", "words": ["12", "5"]}, 5),
-    (["diagnose", "examples/tutorial/model.des", "examples/tutorial/log.csv", "6", "0"], {"status": 11, "kind": "UNDECIDED", "least": 0}, 11),
-    (["trace", "examples/tutorial/model.des", "examples/tutorial/stuck.run"], {"status": 13, "kind": "REJECTED", "why": ["STUCK", "2"]}, 13),
+    (["diagnose", PUMP, "examples/tutorial/log.csv", "6", "0"], {"status": 11, "kind": "UNDECIDED", "least": 0}, 11),
+    (["trace", PUMP, "examples/tutorial/stuck.run"], {"status": 13, "kind": "REJECTED", "why": ["STUCK", "2"]}, 13),
+    (["generate", "log", "4", "7"], {"status": 0, "kind": "TEXT", "text": "alarm,a2,T-2\n"}, 0),
+    (["generate", "map", "4", "7"], {"status": 2, "kind": "USAGE", "words": []}, 2),
+    (["bench", "12", "7", "12", "1000"], {"status": 0, "answer": {"status": 0, "kind": "EXPLAINED", "least": 2, "most": 2}, "units": 12, "alarms": 2, "size": 44136}, 0),
+    (["proof", *FIRST, "3", "1000"], {"status": 0, "kind": "PROOF", "bound": "0"}, 0),
+    (["proof", PUMP, "examples/tutorial/log.csv", "6", "0"], {"status": 11, "kind": "UNDECIDED", "least": 0}, 11),
+    (["check", "none.cnf", "none.lrat"], {"status": 3, "kind": "LOAD", "words": ["1"]}, 3),
+    (["cheapest", PUMP, "examples/tutorial/log.csv", "examples/first/log.csv", "6", "1000"], {"status": 15, "kind": "COST", "words": ["1", "1"]}, 15),
+    (["twin", PUMP, "fall", "3", "1", "1000"], {"status": 16, "kind": "NOFAULT", "words": []}, 16),
+    (["twin", FIRST[0], "clog", "1", "1", "1000"], {"status": 0, "kind": "CLEAR"}, 0),
+    (["show", "."], {"status": 3, "kind": "LOAD", "words": ["1"]}, 3),
+    (["fly", "examples"], {"status": 2, "kind": "USAGE", "words": []}, 2),
+]
+# Texts that are printed, and their replies: the first word, the lines of the run, and whether it is whole.
+REPLIES = [
+    ("", []),
+    ("NONE 4\n", [("NONE", None, True)]),
+    ("run 1\n! a1\n", [("", ["! a1"], True)]),
+    ("EXPLAINED 1\nrun 2\nrun 3\nstop a1\nCERTAIN run\nPOSSIBLE stop\nrun 1\nfall\n", [("EXPLAINED", ["run 3", "stop a1"], True), ("CERTAIN", None, True), ("POSSIBLE", ["fall"], True)]),
+    ("EXPLAINED 1\nrun 2\nfall\nstop a", [("EXPLAINED", ["fall"], False)]),
+    ("EXPLAINED 1\nrun 2\n!\n", None),
+    ("EXPLAINED 1\nrun 1\na b c\n", None),
 ]
 # A tank that leaks or bursts: an alarm A needs two leaks or a burst, a B nothing. No state allows the event `no`.
 TANK = """des 1
@@ -98,8 +120,17 @@ def called(tool, *words):
     return ran.stdout, ran.returncode
 
 
+def read(text):
+    """The replies of a text; None if a line of a run is no such line."""
+    try:
+        return [(it.kind, it.run and [step.line() for step in it.run], it.is_whole) for it in replies_of(lines_of(text))]
+    except ValueError:
+        return None
+
+
 def values(path):
     """Yields what is wrong with the answers as values."""
+    yield from (f"{text!r} is read as {read(text)}" for text, wanted in REPLIES if read(text) != wanted)
     program = Program(path)
     model, log, script = (os.path.join(TOP, "examples/tutorial", it) for it in ("model.des", "log.csv", "script.csv"))
     verdicts = program.verdicts(model, log, 5, 1000)
@@ -111,6 +142,14 @@ def values(path):
     if twins.kind != "AMBIGUOUS" or "bubble" not in [it.event for it in twins.faulty] or "bubble" in [it.event for it in twins.healthy]:
         yield f"the twins are {twins}"
     doubted = program.diagnose(model, Text("maybe,a1,OPEN\nalarm,a2,SHUT\nbefore,a1,a2\n"), 2, 1000)
+    proof = program.proof(model, log, 6, 1000)
+    if [program.check(program.cnf(model, log, 6, proof.bound), it).kind for it in (proof.text, Text("900000 0 1 0\n"))] != ["VERIFIED", "REJECTED"]:
+        yield f"the proof for K {proof.bound} isn't accepted, or a wrong one is"
+    if program.proof(model, Text("alarm,a1,SHUT\n"), 6, 1000).kind != "NOTHING":
+        yield "a log without a fault has a proof"
+    quiet = program.session(model, Text(""), 6, 1000)
+    if quiet != []:
+        yield f"an empty script has {quiet}"
     if doubted.run != (Step(None, "a1"), Step("shut", "a2")) or not doubted.run[0].is_false or doubted.events() != ["shut"]:
         yield f"the doubted log has {doubted}"
     try:
@@ -120,10 +159,12 @@ def values(path):
         if (fault.status, fault.words) != (5, ["MODEL", "1", "1"]):
             yield f"a wrong model is refused by {fault}"
     try:
-        Program(path, 0.5).diagnose(Text(model_of_equals()), Text("".join(f"alarm,a{it},L\n" for it in range(60))), 60, 10 ** 9)
+        ticks = []
+        Program(path, 2.5, ticks.append).diagnose(Text(model_of_equals()), Text("".join(f"alarm,a{it},L\n" for it in range(60))), 60, 10 ** 9)
         yield "a long call isn't late"
     except Late:
-        pass
+        if len(ticks) != 2 or not 1 <= ticks[0] < ticks[1]:
+            yield f"a call of two and a half seconds says how long it has taken at {ticks}"
 
 
 def model_of_equals():
@@ -166,7 +207,10 @@ def main(words):
     program, wrong, count = os.path.abspath(words[0]), [], 0
     for given, wanted, status in OBJECTS:
         said, ended = called("program.py", program, *given)
-        if (json.loads(said), ended) != (wanted, status):
+        found = json.loads(said)
+        if "text" not in wanted:
+            found.pop("text", None)
+        if (found, ended) != (wanted, status):
             wrong.append(f"{given} should print\n{wanted} {status}\nand prints\n{said} {ended}")
     numbers = ("6", "3", "1000")
     tables = [(TANK, numbers, (TANK_SAYS, 0)), (PAIR, numbers, (PAIR_SAYS, 0)), (TAKEN, numbers, (PAIR_SAYS.replace("fail-1  1", "tell   1").replace("fail-1", "tell").replace("die     ", "after  ").replace("fault   ", "fault  "), 0)),

@@ -13,7 +13,6 @@ Status 0: all was answered, 11: a budget was spent, and the line says so, and ot
 """
 import os
 import sys
-import tempfile
 
 sys.path.insert(0, os.path.dirname(os.path.abspath(__file__)))
 from program import Program, Refused, Text  # noqa: E402
@@ -109,19 +108,14 @@ class Asked:
         """The least number of faults that an alarm takes, and all sets of so many."""
         model = self.plant.seeing({it for it in self.plant.events if self.plant.label(it) == label})
         found = set()
-        with tempfile.TemporaryDirectory() as room:
-            paths = [os.path.join(room, name) for name in ("model", "log")]
-            for path, text in zip(paths, (model, LOG)):
-                with open(path, "w", encoding="utf-8") as it:
-                    it.write(text)
-            try:
-                if not sets(Question(self.program.path, *paths, str(self.n), str(self.budget)), found):
-                    return None, []
-            except Ended as ended:
-                if ended.status != 11:
-                    raise Refused(ended.status, str(ended)) from ended
-                self.is_open = True
-                return UNKNOWN, sorted(found)
+        try:
+            if not sets(Question(self.program.path, model, LOG, self.n, self.budget), found):
+                return None, []
+        except Ended as ended:
+            if ended.status != 11:
+                raise Refused(ended.status, str(ended)) from ended
+            self.is_open = True
+            return UNKNOWN, sorted(found)
         return len(min(found, key=len)), sorted(found)
 
     def hidden(self, model, fault, after):

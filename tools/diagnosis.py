@@ -1,28 +1,27 @@
 """The calls of the program for one question, and what they found; tools/report.py makes a page of it."""
 import hashlib
 import os
-import re
 import shutil
 import subprocess
 import time
 
+from program import lines_of, replies_of
 from texts import Log, Wrong, counted, rows_of, sound_model
-from timeline import runs_of
+from timeline import Item, Run
 
 MOST = 1 << 25
 NO_QUESTION = ("MODEL", "LOG", "LOAD", "LONG", "USAGE")
 
 
-class Reply:
+class Outcome:
     """A call of the program and what came of it. A status of None is that of a call that was stopped."""
 
     def __init__(self, words, status, text, size, seconds):
         self.words, self.status, self.text, self.size, self.seconds = words, status, text, size, seconds
         self.is_stopped = status is None
-        self.parts = replies_of(text)
-        self.head, self.run = self.parts[0] if self.parts else ([""], None)
-        self.kind = self.head[0]
-        self.numbers = [int(it) for it in self.head[1:] if it.isdecimal()]
+        self.replies = whole_replies(text)
+        first = self.replies[0] if self.replies else None
+        self.kind, self.head, self.numbers, self.run = (first.kind, first.words, first.numbers, first.run) if first else ("", (), [], None)
 
     def first(self):
         return " ".join(self.head)
@@ -31,21 +30,16 @@ class Reply:
         return f"stopped after {self.seconds:.0f} seconds" if self.is_stopped else f"status {self.status}, {self.seconds:.1f} seconds"
 
 
-def replies_of(text):
-    """The replies of a printed text, each with the lines of its run, if it has one. A reply that was cut off is left out."""
-    lines, found, at = text.split("\n")[:-1], [], 0
-    while at < len(lines):
-        head, run = lines[at].split(" "), None
-        at += 1
-        if at < len(lines) and re.fullmatch("run [0-9]+", lines[at]):
-            end = at + 1 + int(lines[at][4:])
-            run = lines[at + 1:end]
-            if end > len(lines):
+def whole_replies(text):
+    """The replies of a printed text. One that was cut off is left out, and all that stands behind it."""
+    found = []
+    try:
+        for reply in replies_of(lines_of(text)):
+            if not reply.is_whole or reply.run is None and reply.kind in ("POSSIBLE", "EXPLAINED"):
                 break
-            at = end
-        elif head[0] in ("POSSIBLE", "EXPLAINED"):
-            break
-        found.append((head, run))
+            found.append(reply)
+    except ValueError:
+        pass
     return found
 
 
@@ -103,13 +97,13 @@ class Diagnosis:
         with open(path, "rb") as it:
             text = it.read(MOST if keep is None else 4096).decode(errors="replace")
         shown = [os.path.relpath(word, self.folder) if word.startswith(self.folder + os.sep) else word for word in words]
-        reply = Reply([self.program] + shown, status, text, os.path.getsize(path), time.monotonic() - began)
+        reply = Outcome([self.program] + shown, status, text, os.path.getsize(path), time.monotonic() - began)
         self.stopped += [reply] * reply.is_stopped
         return reply
 
     def model_read(self):
         """The model, if the program accepted it."""
-        if self.verdicts.kind in ("MODEL", "USAGE") or self.verdicts.head in (["LOAD", "1"], ["LONG", "1"]):
+        if self.verdicts.kind in ("MODEL", "USAGE") or self.verdicts.first() in ("LOAD 1", "LONG 1"):
             return None
         try:
             return sound_model(self.model_path)
@@ -125,25 +119,25 @@ class Diagnosis:
     def others_of(self):
         """The other runs with the least number of faults, each with the events that it shows to be possible."""
         found = {}
-        for head, run in self.verdicts.parts[1:]:
-            if head[0] == "POSSIBLE" and self.model:
-                found.setdefault(tuple(run), []).append(head[1])
+        for reply in self.verdicts.replies[1:]:
+            if reply.kind == "POSSIBLE" and self.model:
+                found.setdefault(reply.run, []).append(reply.words[1])
         if self.cheapest and self.drawn is self.cheapest and self.verdicts.run is not None and self.verdicts.run != self.cheapest.run:
-            found = {tuple(self.verdicts.run): []} | found
-        return [(list(run), events) for run, events in found.items()]
+            found = {self.verdicts.run: []} | found
+        return list(found.items())
 
     def replay(self, run):
         path = os.path.join(self.folder, f"answer-{self.count}.run")
         with open(path, "w", encoding="utf-8") as it:
-            it.write("\n".join([f"run {len(run)}"] + run) + "\n")
+            it.write("\n".join([f"run {len(run)}"] + [step.line() for step in run]) + "\n")
         return self.call(["replay"] + self.asked + [path, self.n])
 
     def refute(self):
         """The refutation of fewer faults, its formula and the check of both, as far as they came."""
-        if self.verdicts.kind not in ("EXPLAINED", "NONE", "MANY") or self.verdicts.head == ["EXPLAINED", "0"]:
+        if self.verdicts.kind not in ("EXPLAINED", "NONE", "MANY") or self.verdicts.first() == "EXPLAINED 0":
             return []
         made = [self.call(["proof"] + self.asked + [self.n, self.budget], "refutation.lrat")]
-        if made[0].head[:2] == ["c", "cnf"] and made[0].status == 0:
+        if made[0].head[:2] == ("c", "cnf") and made[0].status == 0:
             made.append(self.call(["cnf"] + self.asked + [self.n, made[0].head[2]], "question.cnf"))
             if made[1].status == 0:
                 made.append(self.call(["check", os.path.join(self.folder, "question.cnf"), os.path.join(self.folder, "refutation.lrat")]))
@@ -166,14 +160,14 @@ class Diagnosis:
 
     def read_run(self, run):
         """A run with its parallel steps, as it is drawn."""
-        return runs_of([["run", str(len(run))]] + [line.split() for line in run], self.model)[0]
+        return Run("", [Item(step, self.model) for step in run])
 
     def false_in(self, run):
-        return [line.split()[1] for line in run or [] if line.startswith("! ")]
+        return [step.alarm for step in run or () if step.is_false]
 
     def faults_in(self, run):
         """The fault events of a run in their order, each with how often it happens."""
-        names = [line.split()[0] for line in run if not line.startswith("! ")]
+        names = [step.event for step in run if not step.is_false]
         return {name: names.count(name) for name in dict.fromkeys(names) if self.model.events[name].is_fault}
 
     def strange(self):
@@ -185,7 +179,7 @@ class Diagnosis:
         """What is known of each fault event, in words of one kind; nothing if the first reply wasn't EXPLAINED."""
         if self.verdicts.kind != "EXPLAINED" or not self.model:
             return {}
-        told = {head[1]: head[0].lower() for head, _ in self.verdicts.parts[1:] if len(head) > 1}
+        told = {it.words[1]: it.kind.lower() for it in self.verdicts.replies[1:] if len(it.words) > 1}
         return {name: told.get(name, "open") for name in self.model.faults()}
 
     def costs(self):

@@ -222,9 +222,11 @@ CASES = [
     (RING, "diagnose m.des l.csv 9 0", "UNDECIDED", ["budget of 0 was spent", "ten times the budget"]),
     (only("m.des", PLANT.replace("event fail fault", "event fail alarm DEAD fault")), "twin m.des fail 5 1 1000", "CLEAR 5", ["no run without fail"]),
 ]
-# Calls by a shell, each with the status, what is printed and what the words have: the output or the words can't be written, a word isn't UTF-8, the program is killed, or isn't there.
+# Calls by a shell, each with the status, what is printed and what the words have (None if there are none): the output or the words can't be written, a word isn't UTF-8, the program is killed, or isn't there,
+# or nobody reads on.
 SHELL = [("{explain} {program} show m.des > /dev/full", 4, "", "couldn't be written"), ("{explain} {program} show \"$(printf 'a\\377')\"", 1, "", "isn't UTF-8"),
-         ("{explain} sh -c 'kill -9 $$'", 137, "", ""), ("{explain} {program} show 2> /dev/full", 2, "USAGE\n", ""), ("{explain} ./none show", 1, "", "./none: No such file")]
+         ("{explain} sh -c 'kill -9 $$'", 137, "", ""), ("{explain} {program} show 2> /dev/full", 2, "USAGE\n", ""), ("{explain} ./none show", 1, "", "./none: No such file"),
+         ("{explain} {program} generate model 900 7 | head -n 1", 0, "des 1\n", None), ("((({explain} {program} generate model 900 7; echo $? >&3) | head -n 1 > /dev/null) 3>&1)", 0, "4\n", None)]
 
 
 def listed():
@@ -295,7 +297,7 @@ def by_shell(program, folder):
     for line, status, printed, wanted in SHELL:
         made = subprocess.run(["sh", "-c", line.format(explain=explain_it, program=program)], cwd=folder, capture_output=True, check=False)
         said = made.stderr.decode()
-        if (made.returncode, made.stdout.decode()) != (status, printed) or wanted not in said or "Traceback" in said:
+        if (made.returncode, made.stdout.decode()) != (status, printed) or (said if wanted is None else wanted not in said or "Traceback" in said):
             wrong.append(f"{line}: status {made.returncode}, not {status}, or not {printed!r} and the words {wanted!r}:\n  {said}")
     return wrong
 

@@ -42,7 +42,7 @@ LISTED = [
 ]
 # Models and runs that can't be drawn, and a word of what must be said.
 BAD = [("des 2\n", "run 0\n", "`show`"), (HEAD + "event e : p.z\n", "run 0\n", "`show`"), (HEAD + "state t\ntrans x y z\n", "run 0\n", "`show`"), ("\udcff\udcfe\x00", "run 0\n", "`show`"), ("", "", "`show`"),
-       (RUNS, "NONE 5\n", "no run"), (RUNS, "run 5\ne\n", "so many lines"), (RUNS, "run 1\nz\n", "no event z"), (RUNS, "run 2\ne\ne\n", "p can't"), (RUNS, "run 1\n!\n", "so many lines"),
+       (RUNS, "NONE 5\n", "no run"), (RUNS, "run 5\ne\n", "more lines than the 1"), (RUNS, "run 1\nz\n", "no event z"), (RUNS, "run 2\ne\ne\n", "p can't"), (RUNS, "run 1\n!\n", "`!` is no line of a run"),
        (RUNS, "run \u00b2\n", "no run")]
 
 

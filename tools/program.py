@@ -8,22 +8,25 @@
 
     python3 tools/program.py PROGRAM COMMAND WORDS..
 
-A method has the name and the words of a command. A file is named by its path, or given as `Text`, which is written to a file that lasts as long as the call. An answer to a question is a value,
-`NONE` and `UNDECIDED` among them; what is no answer is raised: `Refused` has the reply, such as `MODEL 12 5`, and `Late` says that the call took too long and was stopped. Called from a shell, this
-prints the answer as one JSON object, an object a line for a session, and ends with the program's status; words that would raise `Refused` give an object too.
-This module is no part of what is proved.
+A method has the name and the words of a command, all thirteen. A file is named by its path, or given as `Text`, which is written to a file that lasts as long as the call; what `cnf`, `proof`, `show` and `generate` print is
+such a text. An answer to a question is a value, `NONE` and `UNDECIDED` among them; what is no answer is raised: `Refused` has the reply, such as `MODEL 12 5`, and `Late` says that the call took too long and was stopped.
+Called from a shell, this prints the answer as one JSON object, an object a line for a session, and ends with the program's status; words that would raise `Refused` give an object too.
+
+`replies_of` reads what the program prints, for this module and for the other tools. This module is no part of what is proved.
 """
 import inspect
 import json
 import os
-import re
 import subprocess
 import sys
 import tempfile
+import time
 from dataclasses import asdict, dataclass
+from itertools import islice
 from typing import Optional
 
 WITHOUT_ANSWER = {1, 2, 3, 4, 5, 6, 7, 8, 9, 15, 16}
+TICK = 1.0
 
 
 class Text(str):
@@ -31,11 +34,12 @@ class Text(str):
 
 
 class Refused(Exception):
-    """A call without an answer: its status, and the reply as words."""
+    """A call without an answer: its status, what was printed, and the words of its first line."""
 
-    def __init__(self, status, reply):
-        super().__init__(reply or f"status {status}")
-        self.status, self.words = status, reply.split()
+    def __init__(self, status, text):
+        first = text.split("\n", 1)[0]
+        super().__init__(first or f"status {status}")
+        self.status, self.text, self.words = status, text, first.split()
 
 
 class Late(Exception):
@@ -51,6 +55,28 @@ class Step:
     @property
     def is_false(self):
         return self.event is None
+
+    def line(self):
+        return " ".join(["!" if self.is_false else self.event] + [self.alarm] * (self.alarm is not None))
+
+
+@dataclass(frozen=True)
+class Reply:
+    """A reply as it is printed: the words of its first line, and the steps of its run, if it has one. It isn't whole if lines of the run are missing. A run text is a reply without words."""
+    words: tuple
+    run: Optional[tuple] = None
+    is_whole: bool = True
+
+    @property
+    def kind(self):
+        return self.words[0] if self.words else ""
+
+    @property
+    def numbers(self):
+        return [int(it) for it in self.words[1:] if it.isdecimal()]
+
+    def first(self):
+        return " ".join(self.words)
 
 
 @dataclass(frozen=True)
@@ -72,7 +98,8 @@ class Answer:
 
 @dataclass(frozen=True)
 class Verdicts:
-    """The answer of `diagnose`, the fault events by what is known of them, and the runs behind the possible ones, in their order."""
+    """The status, the answer as of `diagnose`, the fault events by what is known of them, and the runs behind the possible ones, in their order."""
+    status: int
     answer: Answer
     certain: tuple = ()
     possible: tuple = ()
@@ -90,70 +117,128 @@ class Twins:
     healthy: Optional[tuple] = None
 
 
-def step_of(line):
-    first, *rest = line.split()
-    return Step(None, rest[0]) if first == "!" else Step(first, rest[0] if rest else None)
+@dataclass(frozen=True)
+class Proof:
+    """The answer of `proof`: PROOF, with the refutation and the K of the formula that it refutes, or NOTHING or UNDECIDED, with what is known of the least number."""
+    status: int
+    kind: str
+    bound: Optional[str] = None
+    text: Optional[Text] = None
+    least: Optional[int] = None
+    most: Optional[int] = None
 
 
-def pieces_of(text):
-    """The replies of a text: of each the words before its run, and the steps of the run, if it has one."""
-    lines, found, at = text.split("\n")[:-1], [], 0
-    while at < len(lines):
-        words, run = lines[at].split(), None
-        at += 1
-        if at < len(lines) and re.fullmatch("run [0-9]+", lines[at]):
-            end = at + 1 + int(lines[at][4:])
-            run = tuple(map(step_of, lines[at + 1:end]))
-            at = end
-        found.append((words, run))
-    return found
+@dataclass(frozen=True)
+class Measured:
+    """The answer of `bench`: its status, that about the plant of so many units, how many alarms its log has, and the size of the question."""
+    status: int
+    answer: Answer
+    units: int
+    alarms: int
+    size: int
 
 
-def answer_of(words, run, status):
+def step_of(words):
+    """The line of a run with these words."""
+    if not 1 <= len(words) <= 2 or words == ["!"]:
+        raise ValueError(f"`{' '.join(words)}` is no line of a run")
+    return Step(*(words + [None])[:2]) if words[0] != "!" else Step(None, words[1])
+
+
+def lines_of(text):
+    """The words of each finished line."""
+    return (line.split() for line in text.split("\n")[:-1])
+
+
+def replies_of(lines):
+    """The replies of a text, given as the words of its lines, one after another. Lines that are no line of a run raise a ValueError."""
+    def begins_run(line):
+        return line is not None and len(line) == 2 and line[0] == "run" and line[1].isdecimal()
+
+    lines = iter(lines)
+    line = next(lines, None)
+    while line is not None:
+        words, run, is_whole = (), None, True
+        if not begins_run(line):
+            words, line = tuple(line), next(lines, None)
+        if begins_run(line):
+            count = int(line[1])
+            run = tuple(map(step_of, islice(lines, count)))
+            is_whole, line = len(run) == count, next(lines, None)
+        yield Reply(words, run, is_whole)
+
+
+def answer_of(reply, status):
     """A reply as a value."""
-    kind, numbers = words[0], [int(it) for it in words[1:] if it.isdecimal()]
+    kind, numbers, run = reply.kind, reply.numbers, reply.run
     if kind in ("EXPLAINED", "CHEAPEST", "ACCEPTED", "RAN"):
         return Answer(status, kind, numbers[0], numbers[0], run)
     if kind in ("MANY", "DEAR"):
         return Answer(status, kind, numbers[0] + 1, None, run)
     if kind == "UNDECIDED":
         return Answer(status, kind, numbers[0], numbers[1] if len(numbers) > 1 else None, run)
-    return Answer(status, kind, run=run, why=tuple(words[1:]) if kind in ("REJECTED", "REFUSED") else ())
+    return Answer(status, kind, run=run, why=reply.words[1:] if kind in ("REJECTED", "REFUSED") else ())
 
 
 class Program:
-    """The compiled program. A call may take so many seconds; without a number it may take as long as it likes."""
+    """The compiled program. A call may take so many seconds; without a number it may take as long as it likes. While it works, `waiting` is called each second with the seconds that have passed."""
 
-    def __init__(self, path, seconds=None):
-        self.path, self.seconds = path, seconds
+    def __init__(self, path, seconds=None, waiting=None):
+        self.path, self.seconds, self.waiting = path, seconds, waiting
 
     def call(self, command, *words):
         """What the program prints, and its status."""
         with tempfile.TemporaryDirectory() as room:
-            given = []
-            for place, word in enumerate(words):
-                if isinstance(word, Text):
-                    path = os.path.join(room, str(place))
-                    with open(path, "w", encoding="utf-8", newline="") as it:
-                        it.write(word)
-                    word = path
-                given.append(str(word))
+            given = [self.placed(os.path.join(room, str(place)), word) for place, word in enumerate(words)]
+            with subprocess.Popen([self.path, command, *given], stdin=subprocess.DEVNULL, stdout=subprocess.PIPE) as child:
+                try:
+                    text = self.printed(child, command)
+                except BaseException:
+                    child.kill()
+                    raise
+        return text.decode(), child.returncode
+
+    def placed(self, path, word):
+        """A word of a call; a text is put into a file."""
+        if not isinstance(word, Text):
+            return str(word)
+        with open(path, "w", encoding="utf-8", errors="surrogateescape", newline="") as it:
+            it.write(word)
+        return path
+
+    def printed(self, child, command):
+        """What a call prints, once it has ended."""
+        began = time.monotonic()
+        while True:
+            passed = time.monotonic() - began
+            left = None if self.seconds is None else max(self.seconds - passed, 0)
             try:
-                ran = subprocess.run([self.path, command, *given], stdin=subprocess.DEVNULL, stdout=subprocess.PIPE, timeout=self.seconds)
+                return child.communicate(timeout=min(TICK, TICK if left is None else left) if self.waiting else left)[0]
             except subprocess.TimeoutExpired as cut:
-                raise Late(f"{command} took more than {self.seconds} seconds") from cut
-        return ran.stdout.decode(), ran.returncode
+                passed = time.monotonic() - began
+                if self.seconds is not None and passed >= self.seconds:
+                    raise Late(f"{command} took more than {self.seconds} seconds") from cut
+                if self.waiting:
+                    self.waiting(passed)
 
     def answered(self, command, *words):
-        """The replies of a call that has an answer, and its status."""
+        """What a call prints that has an answer, and its status."""
         text, status = self.call(command, *words)
-        if status in WITHOUT_ANSWER or status < 0 or not text:
-            raise Refused(status, text.rstrip("\n"))
-        return pieces_of(text), status
+        if status in WITHOUT_ANSWER or status < 0 or not text and command != "session":
+            raise Refused(status, text)
+        return text, status
+
+    def replies(self, command, *words):
+        """The replies of a call that has an answer, and its status."""
+        text, status = self.answered(command, *words)
+        return list(replies_of(lines_of(text))), status
 
     def one(self, command, *words):
-        pieces, status = self.answered(command, *words)
-        return answer_of(*pieces[0], status)
+        replies, status = self.replies(command, *words)
+        return answer_of(replies[0], status)
+
+    def text(self, command, *words):
+        return Text(self.answered(command, *words)[0])
 
     def diagnose(self, model, log, n, budget):
         return self.one("diagnose", model, log, n, budget)
@@ -167,46 +252,70 @@ class Program:
     def trace(self, model, run):
         return self.one("trace", model, run)
 
+    def check(self, cnf, lrat):
+        return self.one("check", cnf, lrat)
+
     def verdicts(self, model, log, n, budget):
-        (first, *rest), status = self.answered("verdicts", model, log, n, budget)
-        by = {kind: tuple(words[1] for words, _ in rest if words[0] == kind) for kind in ("CERTAIN", "POSSIBLE", "EXCLUDED", "OPEN")}
-        runs = tuple(run for _, run in rest if run is not None)
-        return Verdicts(answer_of(*first, status), by["CERTAIN"], by["POSSIBLE"], by["EXCLUDED"], by["OPEN"], runs)
+        (first, *rest), status = self.replies("verdicts", model, log, n, budget)
+        by = {kind: tuple(it.words[1] for it in rest if it.kind == kind) for kind in ("CERTAIN", "POSSIBLE", "EXCLUDED", "OPEN")}
+        runs = tuple(it.run for it in rest if it.run is not None)
+        return Verdicts(status, answer_of(first, 0 if by["OPEN"] else status), by["CERTAIN"], by["POSSIBLE"], by["EXCLUDED"], by["OPEN"], runs)
 
     def session(self, model, script, n, budget):
-        """The answers to the questions of a script, and the rows that were refused, in their order."""
-        pieces, status = self.answered("session", model, script, n, budget)
-        return [answer_of(words, run, status) for words, run in pieces]
+        """The answers to the questions of a script, and the rows that were refused, in their order. Their status is that of the session, 0."""
+        replies, status = self.replies("session", model, script, n, budget)
+        return [answer_of(it, status) for it in replies]
 
     def twin(self, model, event, n, after, budget):
-        pieces, status = self.answered("twin", model, event, n, after, budget)
-        runs = [run for _, run in pieces if run is not None]
-        return Twins(status, pieces[0][0][0], *runs)
+        replies, status = self.replies("twin", model, event, n, after, budget)
+        return Twins(status, replies[0].kind, *(it.run for it in replies if it.run is not None))
 
     def show(self, model):
         """The plain form of a model."""
-        text, status = self.call("show", model)
-        if status != 0:
-            raise Refused(status, text.rstrip("\n"))
-        return text
+        return self.text("show", model)
+
+    def cnf(self, model, log, n, k):
+        """The question as a formula."""
+        return self.text("cnf", model, log, n, k)
+
+    def proof(self, model, log, n, budget):
+        text, status = self.answered("proof", model, log, n, budget)
+        first = next(replies_of(lines_of(text[:text.index("\n") + 1])))
+        if status == 0:
+            return Proof(status, "PROOF", first.words[2], Text(text))
+        answer = answer_of(first, status)
+        return Proof(status, answer.kind, least=answer.least, most=answer.most)
+
+    def generate(self, what, z, start):
+        """A plant of Z units, or a log of it: `what` is model or log."""
+        return self.text("generate", what, z, start)
+
+    def bench(self, z, start, n, budget):
+        (*sizes, last), status = self.replies("bench", z, start, n, budget)
+        return Measured(status, answer_of(last, status), *(it.numbers[0] for it in sizes))
+
+
+COMMANDS = ("diagnose", "verdicts", "session", "cheapest", "replay", "trace", "twin", "show", "cnf", "proof", "check", "generate", "bench")
 
 
 def plain(value):
     """An answer as a JSON value, without what it doesn't have."""
+    if isinstance(value, Text):
+        return {"status": 0, "kind": "TEXT", "text": value}
     return asdict(value, dict_factory=lambda fields: {name: it for name, it in fields if it is not None and it != ()})
 
 
 def main(words):
-    if len(words) < 2 or words[1] not in ("diagnose", "verdicts", "session", "cheapest", "replay", "trace", "twin"):
+    if len(words) < 2:
         sys.exit(__doc__)
-    method = getattr(Program(words[0]), words[1])
     try:
-        if len(inspect.signature(method).parameters) != len(words[2:]):
+        method = getattr(Program(words[0]), words[1]) if words[1] in COMMANDS else None
+        if method is None or len(inspect.signature(method).parameters) != len(words[2:]):
             raise Refused(2, "USAGE")
         answers = method(*words[2:])
         for answer in answers if isinstance(answers, list) else [answers]:
             print(json.dumps(plain(answer)))
-        return 0 if isinstance(answers, list) else getattr(answers, "answer", answers).status
+        return getattr(answers, "status", 0)
     except Refused as fault:
         print(json.dumps({"status": fault.status, "kind": fault.words[0] if fault.words else None, "words": fault.words[1:]}))
         return fault.status if fault.status >= 0 else 128 - fault.status

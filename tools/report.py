@@ -180,12 +180,12 @@ class Page:
         by = [f"{word_for} {listing(names)}" for word_for, names in (("with", [it for it in events if it in has]), ("without", [it for it in events if it not in has])) if names]
         title = f"Another run {' and '.join(by)}" if events else "The run with the fewest faults, whatever they cost"
         inside = f"<p>It has {escape(self.words.named(run))}.</p>\n"
-        inside += self.pictures(run, f"other-{place}", title) if place <= DRAWN else "<p>Not drawn, since there are so many.</p>" + pre("\n".join(run[:SHOWN]))
+        inside += self.pictures(run, f"other-{place}", title) if place <= DRAWN else "<p>Not drawn, since there are so many.</p>" + pre("\n".join(step.line() for step in run[:SHOWN]))
         return fold(title, inside, f"other-{place}", "long" * (len(run) > PRINTED))
 
-    def pictures(self, lines, name, what, key=""):
+    def pictures(self, given, name, what, key=""):
         """A run as pictures that each fit on a page, with their key, or as a list if it is very long."""
-        run = self.found.read_run(lines)
+        run = self.found.read_run(given)
         if not run.items:
             return f"<p>{escape(what)} has no events: the plant need not do anything.</p>"
         steps = [(step, ", ".join(item.text for item in items)) for step, items in run.steps()]
@@ -245,7 +245,7 @@ class Page:
         """The cells of a fault event."""
         has = self.found.faults_in(self.found.drawn.run)
         run = "no" if name not in has else "yes" if has[name] == 1 else f"{word(has[name])} times"
-        other = next((place for place, (lines, _) in enumerate(self.found.others, 1) if (name in self.found.faults_in(lines)) != (name in has)), 0) if kind == "possible" else 0
+        other = next((place for place, (steps, _) in enumerate(self.found.others, 1) if (name in self.found.faults_in(steps)) != (name in has)), 0) if kind == "possible" else 0
         if other:
             run += f' (<a href="#other-{other}">a run with{"out" * (name in has)} it</a>)'
         moves = ", ".join(f"{one}.{action}" for one, action in self.model.events[name].parts.items())
@@ -330,7 +330,7 @@ class Page:
         """That less won't do, as the refutation and `check` say."""
         found, proof = self.found, self.found.proof
         title = f"<h3>That {'nothing explains the log' if found.verdicts.kind == 'NONE' else 'no fewer faults will do'}</h3>"
-        if found.verdicts.head == ["EXPLAINED", "0"]:
+        if found.verdicts.first() == "EXPLAINED 0":
             return title + "<p>There is nothing to refute: the run has no fault.</p>"
         if not proof:
             return ""
@@ -339,11 +339,11 @@ class Page:
         made, question, told = proof
         bound, head = made.head[2], question.head
         claim = "with any number of faults" if bound == "any" else "without a fault" if bound == "0" else f"with at most {plural(int(bound), 'fault')}"
-        size = f"{int(head[2]):,} variables and {int(head[3]):,} clauses ({question.size:,} bytes)" if head[:2] == ["p", "cnf"] else f"{question.size:,} bytes"
+        size = f"{int(head[2]):,} variables and {int(head[3]):,} clauses ({question.size:,} bytes)" if head[:2] == ("p", "cnf") else f"{question.size:,} bytes"
         again = [command([found.program, "proof"] + found.asked + [found.n, found.budget]) + " > refutation.lrat",
                  command([found.program, "cnf"] + found.asked + [found.n, bound]) + " > question.cnf", command([found.program, "check", "question.cnf", "refutation.lrat"])]
         return (f"{title}\n<p>The formula says that some run explains the log within {plural(int(found.n), 'step')} {claim} (K is {escape(bound)}). It has {size}, and its refutation has "
-                f"{plural(found.steps_of_refutation(), 'step')} ({made.size:,} bytes). <code>check</code> {replied(told)}{', so there is no such run' * (told.head == ['VERIFIED'])}. "
+                f"{plural(found.steps_of_refutation(), 'step')} ({made.size:,} bytes). <code>check</code> {replied(told)}{', so there is no such run' * (told.first() == 'VERIFIED')}. "
                 f"Any other checker of LRAT proofs can be asked, too.</p>\n{pre(chr(10).join(again))}{self.check_cost()}")
 
     def check_cost(self):

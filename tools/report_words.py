@@ -129,7 +129,7 @@ class Words:
     def mistake(self, reply):
         """A mistake in the files or the words, a question that is too large, or a program that broke off."""
         call = explain.Call(reply.words[1:])
-        said = sentence(explain.meaning(call, explain.Reply(reply.text, reply.status)) or "docs/formats.md says what this reply means")
+        said = sentence(explain.meaning(call, explain.Printed(reply.text, reply.status)) or "docs/formats.md says what this reply means")
         if reply.kind in ("MODEL", "LOG", "COST"):
             return self.in_text(reply, said.rpartition("\n")[2])
         if reply.kind in ("LOAD", "LONG"):
@@ -158,7 +158,7 @@ class Words:
     def in_short(self):
         """What is sure and what isn't, in two or three sentences."""
         known, verdicts = self.found.known_of(), self.found.verdicts
-        if not known or verdicts.head == ["EXPLAINED", "0"]:
+        if not known or verdicts.first() == "EXPLAINED 0":
             return ""
         by = {kind: [name for name, its in known.items() if its == kind] for kind in KINDS}
         count, said = verdicts.numbers[0], []
@@ -202,12 +202,12 @@ class Words:
         bound = {"NONE": "any", "MANY": "255"}.get(verdicts.kind) or str((verdicts.numbers or [0])[0] - 1)
         if len(proof) > 1 and proof[0].head[2] != bound:
             said.append(f"The refutation is for K {proof[0].head[2]}, and the answer asks for {bound}, {rely}")
-        if len(proof) == 3 and not proof[2].is_stopped and proof[2].head != ["VERIFIED"]:
+        if len(proof) == 3 and not proof[2].is_stopped and proof[2].first() != "VERIFIED":
             said.append(f"The check of the refutation says {proof[2].first() or 'nothing'}, {rely}")
         return said
 
     def late(self):
-        names = dict.fromkeys(it.words[1] for it in self.found.stopped if it is not self.found.main or it.parts)
+        names = dict.fromkeys(it.words[1] for it in self.found.stopped if it is not self.found.main or it.replies)
         if not names:
             return []
         return [f"The time limit of {self.found.seconds:g} seconds stopped {listing(names)}; what these would have said is missing below. Allow more with --seconds."]

@@ -16,11 +16,13 @@ Status 0: all sets were listed, 2: the call is wrong, and otherwise that of the 
 what is printed isn't all), and so on.
 """
 import csv
+import io
 import os
-import subprocess
 import sys
-import tempfile
 from collections import Counter, deque
+
+sys.path.insert(0, os.path.dirname(os.path.abspath(__file__)))
+from program import Program, Refused, Text  # noqa: E402
 
 FALSE = "!"
 PARTS = 16
@@ -34,23 +36,24 @@ class Ended(Exception):
         self.status = status
 
 
-def replied(*words):
-    """What the program prints on these words, and its status."""
-    ran = subprocess.run(words, stdout=subprocess.PIPE, text=True)
-    return ran.stdout, ran.returncode
+def rows_of(log):
+    """The rows of a log, which is a text or the path of one."""
+    if isinstance(log, Text):
+        return list(csv.reader(io.StringIO(log, newline="")))
+    with open(log, encoding="utf-8-sig", newline="") as it:
+        return list(csv.reader(it))
 
 
 class Question:
-    """The question of `diagnose`, asked of the model and the log with limits on how often a fault may happen."""
+    """The question of `diagnose`, asked of the model and the log (paths, or texts) with limits on how often a fault may happen."""
 
     def __init__(self, program, model, log, steps, budget):
-        self.program, self.steps, self.budget = program, steps, budget
-        plain, status = replied(program, "show", model)
-        if status != 0:
-            raise Ended(status, plain)
-        self.model = [line.split() for line in plain.split("\n") if line]
-        with open(log, encoding="utf-8-sig", newline="") as it:
-            self.log = list(csv.reader(it))
+        self.program, self.steps, self.budget = Program(program), steps, budget
+        try:
+            self.model = [line.split() for line in self.program.show(model).split("\n") if line]
+        except Refused as fault:
+            raise Ended(fault.status, str(fault)) from fault
+        self.log = rows_of(log)
         self.faults = {words[1] for words in self.model if words[0] == "event" and "fault" in words[2:words.index(":")][-1:]}
         self.counters = self.counter_names()
 
@@ -73,27 +76,24 @@ class Question:
             if limit:
                 counters += [f"component {self.counters[words[1]]}"] + [f"state n{number}" + (" init" if number == 0 else "") for number in range(limit + 1)]
                 counters += [f"trans n{number} count n{number + 1}" for number in range(limit)]
-        return "\n".join(lines[:1] + counters + lines[1:]) + "\n"
+        return Text("\n".join(lines[:1] + counters + lines[1:]) + "\n")
 
     def limited_log(self, limits):
         """The log in which the alarms that aren't to be set aside are no longer doubtful."""
         rows = [["alarm"] + fields[1:] if fields[:1] == ["maybe"] and " ".join([FALSE] + fields[1:2]) in limits else fields for fields in self.log]
-        return "".join(",".join(fields) + "\n" for fields in rows)
+        return Text("".join(",".join(fields) + "\n" for fields in rows))
 
     def ask(self, limits):
         """The faults of a best explanation within these limits; None if there is none."""
-        with tempfile.TemporaryDirectory() as room:
-            paths = [os.path.join(room, name) for name in ("model", "log")]
-            for path, text in zip(paths, [self.limited_model(limits), self.limited_log(limits)]):
-                with open(path, "w", encoding="utf-8") as it:
-                    it.write(text)
-            reply, status = replied(self.program, "diagnose", *paths, self.steps, self.budget)
+        try:
+            (reply,), status = self.program.replies("diagnose", self.limited_model(limits), self.limited_log(limits), self.steps, self.budget)
+        except Refused as fault:
+            raise Ended(fault.status, str(fault)) from fault
         if status == 10:
             return None
         if status != 0:
-            raise Ended(status, reply)
-        lines = [line.split() for line in reply.split("\n")[2:] if line]
-        return tuple(sorted(" ".join(words) if words[0] == FALSE else words[0] for words in lines if words[0] in self.faults or words[0] == FALSE))
+            raise Ended(status, reply.first())
+        return tuple(sorted(step.line() if step.is_false else step.event for step in reply.run if step.is_false or step.event in self.faults))
 
 
 def is_part(one, other):
@@ -129,7 +129,7 @@ def main(words):
         if not sets(Question(*words[:5]), found, int(words[5]) if len(words) > 5 else 0):
             raise Ended(10, f"NONE {words[3]}")
     except Ended as ended:
-        print(str(ended).split("\n")[0], file=sys.stderr)
+        print(ended, file=sys.stderr)
         status = ended.status
     except (OSError, UnicodeDecodeError) as fault:
         print(f"{words[2]}: {fault}", file=sys.stderr)
