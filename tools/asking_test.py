@@ -1,4 +1,4 @@
-"""Tests the tools that ask the program again and again: tools/program.py, causes.py and watch.py.
+"""Tests the tools that ask the program again and again: tools/program.py and causes.py.
 
     python3 tools/asking_test.py PROGRAM
 
@@ -175,34 +175,6 @@ def model_of_equals():
     return "\n".join(lines) + "\n"
 
 
-def watched(path):
-    """Yields what is wrong with the news of a log that grows."""
-    with tempfile.TemporaryDirectory() as room:
-        log, kept = (os.path.join(room, name) for name in ("log.csv", "kept.json"))
-
-        def look(text, n="+3"):
-            with open(log, "a", encoding="utf-8") as it:
-                it.write(text)
-            said, status = called("watch.py", path, FIRST[0], log, n, "1000", kept)
-            return re.sub(r"^\S+ ", "", said), status
-        looks = [
-            ("alarm,a1,NO-FLOW\n", ("1 alarm within 4 steps: EXPLAINED 1\n  first answer\n  possible: seize\n  possible: clog\n", 0)),
-            ("", ("", 0)),
-            ("alarm,a2,HIGH-PRE", ("", 0)),
-            ("SSURE\n", ("2 alarms within 5 steps: EXPLAINED 1\n  certain: clog, was possible\n  excluded: seize, was possible\n", 0)),
-            ("alarm;a3\n", ("2 alarms within 5 steps: no answer: LOG 3 6\n  was EXPLAINED 1\n", 6)),
-        ]
-        for text, wanted in looks:
-            if text.startswith("alarm;"):
-                wanted = (wanted[0].replace("2 alarms within 5", "3 alarms within 6"), wanted[1])
-            answer = look(text)
-            if answer != wanted:
-                yield f"after {text!r} it should say\n{wanted}\nand it says\n{answer}"
-        with open(kept, encoding="utf-8") as it:
-            if json.load(it).get("refused") != "LOG 3 6":
-                yield "what is kept isn't the last answer"
-
-
 def main(words):
     program, wrong, count = os.path.abspath(words[0]), [], 0
     for given, wanted, status in OBJECTS:
@@ -223,8 +195,8 @@ def main(words):
         count += 1
         if answer != wanted:
             wrong.append(f"of\n{model}within {' '.join(numbers)} it should say\n{wanted}\nand it says\n{answer}")
-    wrong += [*values(program), *watched(program)]
-    print("\n".join(wrong + [f"{len(OBJECTS)} objects, {count} tables, answers as values and a log that grows: {len(wrong)} things aren't as they should be"]))
+    wrong += values(program)
+    print("\n".join(wrong + [f"{len(OBJECTS)} objects, {count} tables and answers as values: {len(wrong)} things aren't as they should be"]))
     return 1 if wrong else 0
 
 

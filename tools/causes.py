@@ -7,7 +7,7 @@ PROGRAM is the compiled program, crates/diagnose_cli/out/diagnose_cli. All that 
 Of each alarm: the least number of faults before it or with it, and all sets of so many, as tools/sets.py lists them. `diagnose` is asked about a log with this alarm alone, of the model in which no other label is seen.
 Of each event: whether it can happen at all, asked in the same way. Of each fault: the alarms that point to it, which are those with a set that has it; by which alarm after it, up to AFTER, it is known that a fault happened (no run without a fault looks alike), and
 known that it was this one (no run with another single fault does); `-` if not even by the last. `twin` is asked of the model with this fault alone, and of the model with one fault in all. Where so many alarms can't follow
-the fault within N steps, nothing is known, and a `?` says so. This script is no part of what is proved; each of its questions is answered by the program.
+the fault within N steps, nothing is known, and a `?` says so. A terminal shows on standard error which of them is asked about. This script is no part of what is proved; each of its questions is answered by the program.
 
 Status 0: all was answered, 11: a budget was spent, and the line says so, and otherwise that of the program on the model.
 """
@@ -16,6 +16,7 @@ import sys
 
 sys.path.insert(0, os.path.dirname(os.path.abspath(__file__)))
 from program import Program, Refused, Text  # noqa: E402
+from progress import Progress  # noqa: E402
 from sets import Ended, Question, sets  # noqa: E402
 from texts import Wrong, called  # noqa: E402
 
@@ -93,8 +94,16 @@ class Plant:
 class Asked:
     """The questions about a model, and whether one of them was left open."""
 
-    def __init__(self, program, plant, n, after, budget):
+    def __init__(self, program, plant, n, after, budget, progress):
         self.program, self.plant, self.n, self.after, self.budget, self.is_open = program, plant, n, after, budget, False
+        self.progress = progress
+
+    def each(self, what, names):
+        """These names, of which each is shown while it is asked about."""
+        for place, name in enumerate(names, 1):
+            self.progress.say(f"{what} {place} of {len(names)}: {name}")
+            yield name
+        self.progress.clear()
 
     def least(self, model, n=None):
         """How many faults it takes at least until the alarm is raised: a number, None if nothing raises it, or that it is unknown."""
@@ -161,20 +170,19 @@ def listed(asked):
     """What is said of alarms, events and faults, part by part."""
     plant = asked.plant
     rows, pointed = [["alarm", "faults", "which"]], {fault: [] for fault in plant.faults()}
-    for label in plant.labels():
+    for label in asked.each("alarm", plant.labels()):
         least, found = asked.behind(label)
         rows.append([label, said_of(least), named(found)])
         for fault in {fault for faults in found for fault in faults}:
             pointed[fault].append(label)
     yield table(rows)
-    never = [event for event in plant.events if asked.least(plant.seeing({event})) is None]
+    never = [event for event in asked.each("event", plant.events) if asked.least(plant.seeing({event})) is None]
     if never:
         yield f"can't happen within {asked.n} steps: {', '.join(never)}"
     rows = [["fault", "known", "told from the others", "alarms that point to it"]]
     once = plant.one_in_all()
-    for fault, labels in pointed.items():
-        if fault not in never:
-            rows.append([fault, asked.known_by(plant.alone(fault), fault), asked.known_by(once, fault), " ".join(labels) or "-"])
+    for fault in asked.each("fault", [it for it in pointed if it not in never]):
+        rows.append([fault, asked.known_by(plant.alone(fault), fault), asked.known_by(once, fault), " ".join(pointed[fault]) or "-"])
     if len(rows) > 1:
         yield table(rows)
 
@@ -184,14 +192,15 @@ def main(words):
         sys.stderr.write(__doc__)
         return 2
     n, after, budget = map(int, words[2:])
-    program = Program(words[0])
+    program, progress = Program(words[0]), Progress()
     try:
-        asked = Asked(program, Plant(program.show(words[1])), n, after, budget)
+        asked = Asked(program, Plant(program.show(words[1])), n, after, budget, progress)
         for place, part in enumerate(listed(asked)):
             print("\n" * bool(place) + part, flush=True)
     except Refused as fault:
+        progress.clear()
         print(fault, file=sys.stderr)
-        return fault.status
+        return fault.ending
     except OSError as fault:
         raise Wrong(f"{fault.filename}: {fault.strerror}") from fault
     return 11 if asked.is_open else 0

@@ -41,6 +41,11 @@ class Refused(Exception):
         super().__init__(first or f"status {status}")
         self.status, self.text, self.words = status, text, first.split()
 
+    @property
+    def ending(self):
+        """The status as a shell says it: a call that was killed has 128 and the number of the signal."""
+        return self.status if self.status >= 0 else 128 - self.status
+
 
 class Late(Exception):
     """A call that took longer than it may."""
@@ -318,7 +323,7 @@ def main(words):
         return getattr(answers, "status", 0)
     except Refused as fault:
         print(json.dumps({"status": fault.status, "kind": fault.words[0] if fault.words else None, "words": fault.words[1:]}))
-        return fault.status if fault.status >= 0 else 128 - fault.status
+        return fault.ending
     except OSError as fault:
         sys.exit(f"{fault.filename}: {fault.strerror}")
 

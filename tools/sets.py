@@ -10,7 +10,7 @@ of a model that allows this fault one time less, and so on from each answer: a t
 a few times counts them in a component of its own, and an alarm that isn't to be set aside is no longer doubtful.
 
 With MORE, a number, the sets with up to so many faults more are listed too, as far as no other set is part of them. Sets are those of explanations within N parallel steps, and there may be
-very many: the number of questions grows with them. This script is no part of what is proved; each of its questions is answered by the program.
+very many: the number of questions grows with them, and a terminal shows on standard error how far it is. This script is no part of what is proved; each of its questions is answered by the program.
 
 Status 0: all sets were listed, 2: the call is wrong, and otherwise that of the program's reply, which goes to standard error: 10 (nothing explains the log), 11 (a budget was spent, and
 what is printed isn't all), and so on.
@@ -23,6 +23,8 @@ from collections import Counter, deque
 
 sys.path.insert(0, os.path.dirname(os.path.abspath(__file__)))
 from program import Program, Refused, Text  # noqa: E402
+from progress import Progress  # noqa: E402
+from texts import plural  # noqa: E402
 
 FALSE = "!"
 PARTS = 16
@@ -52,7 +54,7 @@ class Question:
         try:
             self.model = [line.split() for line in self.program.show(model).split("\n") if line]
         except Refused as fault:
-            raise Ended(fault.status, str(fault)) from fault
+            raise Ended(fault.ending, str(fault)) from fault
         self.log = rows_of(log)
         self.faults = {words[1] for words in self.model if words[0] == "event" and "fault" in words[2:words.index(":")][-1:]}
         self.counters = self.counter_names()
@@ -88,7 +90,7 @@ class Question:
         try:
             (reply,), status = self.program.replies("diagnose", self.limited_model(limits), self.limited_log(limits), self.steps, self.budget)
         except Refused as fault:
-            raise Ended(fault.status, str(fault)) from fault
+            raise Ended(fault.ending, str(fault)) from fault
         if status == 10:
             return None
         if status != 0:
@@ -101,13 +103,14 @@ def is_part(one, other):
     return one != other and not Counter(one) - Counter(other)
 
 
-def sets(question, found, more=0):
-    """Puts all sets into `found`: those with the fewest faults, and those with up to so many more."""
+def sets(question, found, more=0, say=lambda words: None):
+    """Puts all sets into `found`: those with the fewest faults, and those with up to so many more. Says meanwhile how far it is."""
     first = question.ask({})
     most = -1 if first is None else len(first) + more
     todo, seen = deque([({}, first)]), set()
     while todo:
         limits, faults = todo.popleft()
+        say(f"{plural(len(seen) + 1, 'question')} asked, {plural(len(todo), 'answer')} to follow up, {plural(len(found), 'set')} found")
         if faults is None or len(faults) > most:
             continue
         found.add(faults)
@@ -124,16 +127,16 @@ def main(words):
     if len(words) not in (5, 6) or not os.access(words[0], os.X_OK) or not all(it.isdigit() for it in words[3:]):
         sys.stderr.write(__doc__)
         return 2
-    found, status = set(), 0
+    found, status, progress, why = set(), 0, Progress(), ""
     try:
-        if not sets(Question(*words[:5]), found, int(words[5]) if len(words) > 5 else 0):
+        if not sets(Question(*words[:5]), found, int(words[5]) if len(words) > 5 else 0, progress.say):
             raise Ended(10, f"NONE {words[3]}")
     except Ended as ended:
-        print(ended, file=sys.stderr)
-        status = ended.status
+        status, why = ended.status, f"{ended}\n"
     except (OSError, UnicodeDecodeError) as fault:
-        print(f"{words[2]}: {fault}", file=sys.stderr)
-        return 3
+        status, why = 3, f"{words[2]}: {fault}\n"
+    progress.clear()
+    sys.stderr.write(why)
     least = [faults for faults in found if not any(is_part(other, faults) for other in found)]
     for faults in sorted(least, key=lambda it: (len(it), it)):
         print(len(faults), *faults)
