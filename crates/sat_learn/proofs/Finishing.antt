@@ -13,11 +13,11 @@ use Rattle.prop_core.specs.Derivation.{Derives, clause_numbered}
 use Rattle.prop_core.specs.Trail.{no_literal, has_var, HasVarsOnce}
 use Rattle.prop_core.proofs.Entailed.{same_itself}
 use Rattle.prop_core.proofs.Literals.{same_is, negation_twice, not_self, true_at, all_from, has_back, once_same, once_cons, once_none, once_apart, open_shorter, open_negation}
-use Rattle.sat_prop.specs.TrailState.{TrailState, IsJustified}
+use Rattle.sat_prop.specs.TrailState.{TrailState, reason_at, IsJustified}
 use Rattle.sat_prop.specs.Levels.{level_at, IsLastDecision, IsGreatestLevel}
 use Rattle.sat_prop.proofs.Justifying.{justified_once}
-use Rattle.sat_learn.specs.Seen.{IsRefutedBySeen, negated_seen, level_seen, is_known_var, IsOnlySeen}
-use Rattle.sat_learn.specs.Learnt.{IsLearnt}
+use Rattle.sat_learn.specs.Seen.{IsRefutedBySeen, negated_seen, level_seen, is_known_var, IsOnlySeen, IsDecidedTo, IsResolved}
+use Rattle.sat_learn.specs.Learnt.{IsLearnt, KeepsDecisionsTo}
 
 -- the literals that make a clause false
 beq_flip : (a b : Bool) → beq a (not b) ≡ beq (not a) b
@@ -188,3 +188,25 @@ found_kept literals seen new start k size same above f =
       is = above k from (omega arith) ∙ f.is;
       alone = λ other h d b. above other h (omega arith) ∙ f.alone other h d (omega arith);
     }
+
+-- one more place is resolved: what is seen from there on was decided, at these levels
+pub decided_to_next : (reasons : List (Option ℕ)) (level : ℕ) (seen new : List Bool) (k p end : ℕ) → p ≤ k + 1 → end ≤ length seen → IsResolved k seen new → IsDecidedTo reasons level seen p end → IsDecidedTo reasons level new k end
+decided_to_next reasons level seen new k p end near within r h i m b s below =
+    ⊎_elim
+    (λ e. let q : k < i = let v = e in grind (arith, nat_tests) in h i (omega arith) b (sym (r.above i q (omega arith)) ∙ s) below)
+    (λ e. let q : i ≡ k = let v = e in grind (arith, nat_tests) in
+    let a = subst (λ (j : ℕ). get_or new j false ≡ true) q s in
+    absurd (let z : true ≡ false = sym a ∙ r.cleared in cc))
+    (cases_Bool (nat_lt k i))
+
+-- what the clause has behind its first literal was decided, at the levels where what is seen was
+pub keeps_decisions : (t : TrailState) (seen : List Bool) (level start : ℕ) (first : Lit) → HasVarsOnce t.literals → start ≤ length t.literals → IsDecidedTo t.reasons level seen 0 start → KeepsDecisionsTo t level (first ∷ negated_seen t.literals seen start)
+keeps_decisions t seen level start first once within decided place b among below =
+    let off : (start ≤ place) ⊎ (get_or seen place false ≡ false) → is_none (reason_at t.reasons place) ≡ true = λ o. absurd (let z : true ≡ false = sym among ∙ negated_none t.literals once seen start place within b o in cc) in
+    ⊎_elim
+    (λ e. ⊎_elim (λ s. decided place (omega arith) (let v = e in grind (arith, nat_tests)) s below) (λ s. off (inr s)) (cases_Bool (get_or seen place false)))
+    (λ e. off (inl (let v = e in grind (arith, nat_tests))))
+    (cases_Bool (nat_lt place start))
+
+pub decisions_same : (t : TrailState) (level : ℕ) (c d : Clause) → c ≡ d → KeepsDecisionsTo t level d → KeepsDecisionsTo t level c
+decisions_same t level c d e h = rw e h

@@ -1,12 +1,12 @@
 -- What a conflict gives.
-use Rattle.std.specs.Prelude.{◌≡◌, ℕ, ◌<◌, ◌⊎◌, true, List, ◌∷◌, take, length, is_none}
+use Rattle.std.specs.Prelude.{◌≡◌, ℕ, ◌<◌, ◌≤◌, ◌⊎◌, true, List, ◌∷◌, drop, take, length, is_none}
 use Rattle.std.specs.List.{list_any, list_all}
 use Rattle.prop_core.specs.declared.lit.Lit.{Lit}
 use Rattle.prop_core.specs.Clauses.{Clause, negation, same_literal, is_true, is_false, is_open}
 use Rattle.prop_core.specs.Derivation.{Derives, clause_numbered}
-use Rattle.prop_core.specs.Trail.{HasVarsOnce}
+use Rattle.prop_core.specs.Trail.{has_var, HasVarsOnce}
 use Rattle.sat_prop.specs.TrailState.{TrailState, literal_at, reason_at}
-use Rattle.sat_prop.specs.Levels.{IsLastDecision, IsGreatestLevel}
+use Rattle.sat_prop.specs.Levels.{level_at, IsLastDecision, IsGreatestLevel}
 use Rattle.sat_learn.specs.Seen.{is_known_var}
 
 -- A learnt clause derives by its hints, has no variable twice, and has only variables of the clauses. All its literals are
@@ -25,6 +25,10 @@ pub record IsLearnt (t : TrailState) (clauses : List Clause) (clause : Clause) (
   pub before : is_open (take start t.literals) found ≡ true
   pub others : list_all (is_false (take start t.literals)) rest ≡ true
   pub deepest : IsGreatestLevel t.literals t.reasons rest level
+
+-- behind its first literal a clause has none that was forced at a level up to this one
+abbrev pub KeepsDecisionsTo : TrailState → ℕ → Clause → Type 0
+KeepsDecisionsTo t level clause = (place : ℕ) → place < length t.literals → has_var (literal_at t.literals place).var (drop 1 clause) ≡ true → level_at t.reasons place ≤ level → is_none (reason_at t.reasons place) ≡ true
 
 -- the literal is the negation of one that was decided
 pub record IsDecidedAt (t : TrailState) (l : Lit) (place : ℕ) : Type 0 where

@@ -76,3 +76,7 @@ pub record IsOnlySeen (start : ℕ) (seen : List Bool) (place : ℕ) : Type 0 wh
 -- from a place on, what is seen was decided
 abbrev pub IsDecidedFrom : List (Option ℕ) → List Bool → ℕ → Type 0
 IsDecidedFrom reasons seen start = (place : ℕ) → start ≤ place → place < length seen → is_seen seen place ≡ true → is_none (reason_at reasons place) ≡ true
+
+-- from a place on, what is seen before the last ones, at a level up to this one, was decided
+abbrev pub IsDecidedTo : List (Option ℕ) → ℕ → List Bool → ℕ → ℕ → Type 0
+IsDecidedTo reasons level seen start end = (place : ℕ) → start ≤ place → place < end → is_seen seen place ≡ true → level_at reasons place ≤ level → is_none (reason_at reasons place) ≡ true

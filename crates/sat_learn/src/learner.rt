@@ -7,7 +7,7 @@ ghost use Rattle.sat_prop.specs.Levels.{level_of, IsLastDecision};
 ghost use Rattle.sat_prop.specs.Quiet.{IsConflict};
 ghost use Rattle.sat_prop.specs.Changes.{IsFront};
 ghost use Rattle.sat_learn.specs.Seen.{is_seen, negated_seen, IsAnalysed};
-ghost use Rattle.sat_learn.specs.Learnt.{IsLearnt, IsClosing};
+ghost use Rattle.sat_learn.specs.Learnt.{IsLearnt, IsClosing, KeepsDecisionsTo};
 
 use crate::analysed::Analysed;
 use crate::clause::{add_negated, last_level};
@@ -32,21 +32,23 @@ pub struct Learnt {
 
 /// Learns from conflicts.
 ///
-/// Its value is the number of literals that it has room for. An analysis keeps it, even if memory runs out, so that another can follow.
+/// An analysis keeps its value, even if memory runs out, so that another can follow.
 #[derive(Drop)]
 pub struct Learner {
     alloc: Global,
     seen: Vec<bool>,
     removable: Removable,
     room: u32,
+    decisions_to: u32,
 }
 
 impl Model for Learner {
-    ghost use Rattle.std.specs.Prelude.{ℕ, ◌≤◌, vec_capacity};
+    ghost use Rattle.std.specs.Prelude.{◌≤◌, vec_capacity};
+    ghost use Rattle.sat_learn.specs.LearnerState.{LearnerState};
 
-    ghost Value = { ℕ };
+    ghost Value = { LearnerState };
 
-    ghost view = { λ a. a.room };
+    ghost view = { λ a. record { room = a.room; decisions_to = a.decisions_to } };
 
     ghost invariant = { λ a. a.room ≤ vec_capacity a.seen };
 }
@@ -54,21 +56,20 @@ impl Model for Learner {
 impl Learner {
     /// It has room for no literals.
     pub fn new(alloc: Global) -> Learner
-        ensures { result ≡ 0 }
+        ensures { result ≡ record { room = 0; decisions_to = 0 } }
     {
         Learner {
             alloc,
             seen: Vec::new(alloc),
             removable: Removable::new(alloc),
             room: 0,
+            decisions_to: 0,
         }
     }
 
     /// Takes memory for the literals of `vars` variables beforehand. If memory runs out, the room is as before.
     pub fn grow(&mut self, vars: u32) -> Result<(), Memory>
-        ensures ok { OnOk result (vars ≤ self.new) }
-        ensures kept { self.old ≤ self.new }
-        ensures grown { OnOk result (self.new ≡ max self.old vars) }
+        ensures grown { OnOk result (self.new ≡ record self.old { room = max self.old.room vars }) }
         ensures err { OnErr result (self.new ≡ self.old) }
     {
         let room = self.room.max(vars);
@@ -77,6 +78,15 @@ impl Learner {
         self.seen.reserve(room as usize)?;
         self.room = room;
         Ok(())
+    }
+
+    /// Of the levels up to this one, clauses that are learnt keep decisions alone, until another is given.
+    ///
+    /// Where these decisions are assumptions that stay for long, much follows from them, and a clause would have many such literals.
+    pub fn keep_decisions_to(&mut self, level: u32)
+        ensures { self.new ≡ record self.old { decisions_to = level } }
+    {
+        self.decisions_to = level;
     }
 
     /// The clause of the first implication point, where the trail has a decision and a clause is false.
@@ -91,6 +101,7 @@ impl Learner {
         requires decided { 0 < level_of trail.now.reasons }
         ensures kept { self.new ≡ self.old }
         ensures learnt { IfOk result (λ l. IsLearnt trail.now db.now.clauses l.clause l.hints l.level) }
+        ensures decided { IfOk result (λ l. KeepsDecisionsTo trail.now self.old.decisions_to l.clause) }
     {
         unsee(&mut self.seen, trail.len() as usize)?;
         let on = Analysed {
@@ -104,6 +115,7 @@ impl Learner {
             self.alloc,
             &on,
             conflict,
+            self.decisions_to,
         )
     }
 
@@ -160,15 +172,25 @@ fn learn(
     alloc: Global,
     on: &Analysed<'_>,
     conflict: ClauseId,
+    decisions_to: u32,
 ) -> Result<Learnt, Memory>
     requires analysed { IsAnalysed on.now.trail.now on.now.clauses.now.clauses seen.old }
     requires cleared { (place : ℕ) → is_seen seen.old place ≡ false }
     requires conflict { IsConflict on.now.trail.now conflict }
     requires last { IsLastDecision on.now.trail.now.reasons on.now.start }
     ensures learnt { IfOk result (λ l. IsLearnt on.now.trail.now on.now.clauses.now.clauses l.clause l.hints l.level) }
+    ensures decided { IfOk result (λ l. KeepsDecisionsTo on.now.trail.now decisions_to l.clause) }
 {
     let mut hints = Vec::new(alloc);
-    let learnt = learn_with(seen, removable, alloc, on, conflict, &mut hints);
+    let learnt = learn_with(
+        seen,
+        removable,
+        alloc,
+        on,
+        conflict,
+        decisions_to,
+        &mut hints,
+    );
     drop(hints);
     learnt
 }
@@ -180,6 +202,7 @@ fn learn_with(
     alloc: Global,
     on: &Analysed<'_>,
     conflict: ClauseId,
+    decisions_to: u32,
     hints: &mut Vec<ClauseId>,
 ) -> Result<Learnt, Memory>
     requires analysed { IsAnalysed on.now.trail.now on.now.clauses.now.clauses seen.old }
@@ -188,13 +211,14 @@ fn learn_with(
     requires last { IsLastDecision on.now.trail.now.reasons on.now.start }
     requires empty { hints.old.items ≡ [] }
     ensures learnt { IfOk result (λ l. IsLearnt on.now.trail.now on.now.clauses.now.clauses l.clause l.hints l.level) }
+    ensures decided { IfOk result (λ l. KeepsDecisionsTo on.now.trail.now decisions_to l.clause) }
 {
     on.trail.is_sound();
     let first = begin(seen, on, conflict, hints)?;
     let place = resolve_to_one(seen, on, first, hints)?;
     let from_conflict = hints.len();
     removable.find(seen, on.trail, on.clauses, on.start)?;
-    shorten(seen, removable, on, hints)?;
+    shorten(seen, removable, on, decisions_to, hints)?;
     let clause = asserting(seen, alloc, on, place)?;
     let level = last_level(seen, on.trail, on.start);
     hints.reverse();

@@ -4,7 +4,8 @@
 //!   of its literal takes its place; the hints are the conflict and the reasons, the last first.
 //! - The *learnt* clause stops at the first implication point: one literal of the present level is left. It derives, it is
 //!   false by the trail, and one level back its first literal would be forced.
-//! - What of a learnt clause follows from its other literals is resolved as well, so that it is shorter.
+//! - What of a learnt clause follows from its other literals is resolved as well, so that it is shorter, and so is what was
+//!   forced at one of the first levels, as many as the learner was told (`keep_decisions_to`).
 //! - A *closing* clause goes down to decisions: it holds negations of decisions alone.
 #![tactic(auto)]
 

@@ -1,6 +1,7 @@
 -- The levels of the first literals of a clause, as they are marked.
-use Rattle.std.proofs.Common.{◌≡◌, ◌∙◌, ℕ, ◌+◌, ◌*◌, ◌<◌, ◌≤◌, Bool, true, false, not, ◌||◌, ◌++◌, ◌∷◌, [], List, refl, ap, sym, length, take, map, get_or, set, eqb, arith, subst, ⊎_elim, replicate}
+use Rattle.std.proofs.Common.{◌≡◌, ◌∙◌, ℕ, ◌+◌, ◌*◌, ◌<◌, ◌≤◌, Bool, true, false, not, ◌||◌, ◌++◌, ◌∷◌, [], List, refl, ap, sym, length, max, take, map, get_or, set, eqb, arith, subst, inl, inr, ⊎_elim, replicate}
 use Rattle.std.specs.Prelude.{slice_set, cond}
+use Rattle.std.proofs.Math.Nat.{max-eq_left, max-eq_right}
 use Rattle.std.proofs.lemmas.Grind.{common_steps}
 use Rattle.std.proofs.lemmas.Bool.{cases_eq, cases_lt, cases_Bool, eqb-true}
 use Rattle.std.proofs.lemmas.List.{get_or-set_same, get_or-set_other, length-set, set-get_or, set_past, get_or-map, length-map}
@@ -9,7 +10,7 @@ use Rattle.prop_core.specs.declared.lit.Lit.{Lit}
 use Rattle.prop_core.specs.Trail.{has_var, no_literal}
 use Rattle.prop_core.proofs.Literals.{has_at}
 use Rattle.sat_prop.specs.TrailState.{TrailState, StandsAt}
-use Rattle.sat_prop.specs.Levels.{level_at}
+use Rattle.sat_prop.specs.Levels.{level_at, IsGreatestLevel}
 use Rattle.sat_solve.specs.LevelCount.{IsLevelOf, HasLevel, AreLevelsOf, is_marked_level, marked_of}
 use Rattle.sat_solve.proofs.Places.{held_more}
 use Rattle.des_base.proofs.BoolLemmas.{or_left}
@@ -125,3 +126,40 @@ marked_again marks level first =
     was : (b : Bool) → not b ≡ false → b ≡ true
     was true e = refl
     was false e = sym e
+
+-- one more literal has no level
+pub greatest_same : (t : TrailState) (clause : List Lit) (i most : ℕ) → i < length clause → IsGreatestLevel t.literals t.reasons (take i clause) most → ((place : ℕ) → StandsAt t.literals (get_or clause i no_literal).var place → ⊥) → IsGreatestLevel t.literals t.reasons (take (i + 1) clause) most
+greatest_same t clause i most h g none = record {
+  bound = λ p b e. let v = (get_or t.literals p no_literal).var in ⊎_elim (λ f. g.bound p b f)
+      (λ f. let n : has_var v (take i clause) ≡ true → ⊥ = λ z. (let x : true ≡ false = sym z ∙ f in cc) in
+      let q = eqb-true (get_or clause i no_literal).var v (or_either (has_var v (take i clause)) (eqb (get_or clause i no_literal).var v) (sym (has_next clause i v h) ∙ e) n) in
+      absurd (none p (record { within = b; at = sym q })))
+      (cases_Bool (has_var v (take i clause)));
+  reached = ⊎_elim inl (λ r. inr (r.0, r.1, earlier clause i (get_or t.literals r.0 no_literal).var h r.2, r.3)) g.reached;
+}
+
+-- one more literal has this level
+pub greatest_more : (t : TrailState) (clause : List Lit) (i most own next : ℕ) → i < length clause → IsGreatestLevel t.literals t.reasons (take i clause) most → IsLevelOf t (get_or clause i no_literal).var own
+    → ((place : ℕ) → StandsAt t.literals (get_or clause i no_literal).var place → own ≡ level_at t.reasons place) → next ≡ max most own → IsGreatestLevel t.literals t.reasons (take (i + 1) clause) next
+greatest_more t clause i most own next h g l single e = rw e (⊎_elim
+    (λ k. let m : max most own ≡ own = max-eq_right (omega arith) in rw m (record { bound = bound own (omega arith) (omega arith); reached = inr (l.place, l.stands.within, among, l.at) }))
+    (λ k. let m : max most own ≡ most = max-eq_left k in rw m (record {
+      bound = bound most (omega arith) k;
+      reached = ⊎_elim inl (λ r. inr (r.0, r.1, earlier clause i (get_or t.literals r.0 no_literal).var h r.2, r.3)) g.reached;
+    }))
+    (cases_lt most own))
+  where
+    among : has_var (get_or t.literals l.place no_literal).var (take (i + 1) clause) ≡ true
+    among =
+        let n : i < length (take (i + 1) clause) = grind (arith, common_steps) in
+        let e : get_or (take (i + 1) clause) i no_literal ≡ get_or clause i no_literal = grind (arith, common_steps) in
+        has_at (take (i + 1) clause) i (get_or t.literals l.place no_literal).var n (ap (λ (x : Lit). x.var) e ∙ sym l.stands.at)
+
+    bound : (top : ℕ) → most ≤ top → own ≤ top → (p : ℕ) → p < length t.literals → has_var (get_or t.literals p no_literal).var (take (i + 1) clause) ≡ true → level_at t.reasons p ≤ top
+    bound top a o p b f =
+        let v = (get_or t.literals p no_literal).var in
+        ⊎_elim (λ z. let y = g.bound p b z in omega arith)
+        (λ z. let n : has_var v (take i clause) ≡ true → ⊥ = λ y. (let x : true ≡ false = sym y ∙ z in cc) in
+        let q = eqb-true (get_or clause i no_literal).var v (or_either (has_var v (take i clause)) (eqb (get_or clause i no_literal).var v) (sym (has_next clause i v h) ∙ f) n) in
+        let y = single p (record { within = b; at = sym q }) in omega arith)
+        (cases_Bool (has_var v (take i clause)))

@@ -2,15 +2,17 @@
 //
 // All assumptions are decided before any other literal. Where one of them is false, or a conflict depends on them alone, the decisions that
 // lead to it are assumptions, and the clause of their negations is derived.
-ghost use Rattle.std.specs.Prelude.{◌≡◌, ℕ, ◌<◌, ◌≤◌, ◌^◌, length, true, IfOk, IfSome, IfNone, OnErr};
+ghost use Rattle.std.specs.Prelude.{◌≡◌, ℕ, ◌<◌, ◌≤◌, ◌-◌, ◌^◌, length, take, true, IfOk, IfSome, IfNone, OnErr};
 ghost use Rattle.std.specs.List.{list_all};
 ghost use Rattle.prop_core.specs.Clauses.{is_true, is_false};
+ghost use Rattle.sat_prop.specs.Levels.{IsGreatestLevel};
 ghost use Rattle.sat_prop.specs.Quiet.{IsConflict};
 ghost use Rattle.sat_prop.specs.Kept.{IsTrailState};
 ghost use Rattle.sat_solve.specs.Searching.{IsSearched};
 ghost use Rattle.sat_solve.specs.Solving.{IsAssumptionLeft, IsFurther, HasAssumedDecisions, AreTaken, IsOver, IsUnderWay, KeepsVariables, IsEnded, assumed_level_of};
 
 use crate::answer::Answer;
+use crate::levels::greatest_level;
 use crate::search::Search;
 use des_base::Memory;
 use proof_ledger::Ledger;
@@ -112,6 +114,15 @@ pub fn assumed_level(trail: &Trail, assumptions: &[Lit]) -> u32
         }
     }
     level
+}
+
+// The level by which all assumptions but the last were taken. The last may be a bound, which the next search won't have, so what follows from it is worth more
+// by itself.
+pub fn lasting_level(trail: &Trail, assumptions: &[Lit]) -> u32
+    ensures { IsGreatestLevel trail.now.literals trail.now.reasons (take (length assumptions.now - 1) assumptions.now) result }
+{
+    let others = assumptions.len().saturating_sub(1);
+    greatest_level(trail, &assumptions[..others])
 }
 
 // What is true of each trail.

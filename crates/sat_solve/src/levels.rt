@@ -2,7 +2,7 @@
 // clauses quality in modern SAT solvers", 2009).
 ghost use Rattle.std.specs.Prelude.{◌≡◌, ℕ, ◌+◌, [], length, OnOk, OnErr, IfSome, IfNone};
 ghost use Rattle.sat_prop.specs.TrailState.{StandsAt};
-ghost use Rattle.sat_prop.specs.Levels.{level_at};
+ghost use Rattle.sat_prop.specs.Levels.{level_at, IsGreatestLevel};
 ghost use Rattle.sat_solve.specs.LevelCount.{IsLevelOf, AreLevelsOf, marked_of};
 ghost use Rattle.sat_solve.specs.Widening.{widened};
 
@@ -75,4 +75,17 @@ fn level_of(trail: &Trail, var: u32) -> Option<u32>
         Some(_) => Some(trail.level_of(var)),
         None => None,
     }
+}
+
+// The greatest level of these literals, or 0.
+pub fn greatest_level(trail: &Trail, literals: &[Lit]) -> u32
+    ensures { IsGreatestLevel trail.now.literals trail.now.reasons literals.now result }
+{
+    let mut greatest = 0_u32;
+    for lit in literals {
+        if let Some(level) = level_of(trail, lit.var) {
+            greatest = greatest.max(level);
+        }
+    }
+    greatest
 }

@@ -10,7 +10,7 @@ ghost use Rattle.sat_solve.specs.Solving.{IsUnder, IsOver, IsUnderWay, KeepsVari
 use crate::advice::Advice;
 use crate::answer::Answer;
 use crate::deciding::pick;
-use crate::ending::{further_decision, makes_true, next_assumption, trail_state};
+use crate::ending::{further_decision, lasting_level, makes_true, next_assumption, trail_state};
 use des_base::Memory;
 use proof_ledger::Ledger;
 use prop_core::{ClauseId, Lit};
@@ -134,9 +134,10 @@ impl<R: Fn(u32) -> u64> Search<R> {
     {
         trail_state(&self.propagator);
         self.propagator.reserve_clauses(self.spare + 1)?;
-        let learnt = self
-            .learner
-            .analyse(self.propagator.trail(), book.clauses(), conflict)?;
+        let trail = self.propagator.trail();
+        self.learner
+            .keep_decisions_to(lasting_level(trail, assumptions));
+        let learnt = self.learner.analyse(trail, book.clauses(), conflict)?;
         let id = book.put_learnt(learnt.clause.as_slice(), learnt.hints.as_slice())?;
         *budget -= 1;
         update(

@@ -32,11 +32,11 @@ backtrack-requires-clause-sound g c =
 
 -- just before the clause is attached
 joining : (g : given.Over) (c : goal.After-clauses-2 g) → IsJoining c.args.self.now.spare c.reserve_clauses.new.self c.backtrack.new.self.propagator c.clauses-2.result.now.clauses c.in_ok-learnt.learnt.clause c.in_ok-id.id
-joining g c = joining_from c.args.self.now.spare c.in_ok-learnt.learnt.level c.args.self.now.propagator c.reserve_clauses.new.self c.backtrack.new.self.propagator c.args.book.now.entries c.put_learnt.new.self.entries c.clauses.result.now.clauses c.clauses-2.result.now.clauses c.as_slice.result.now c.in_ok-learnt.learnt.clause c.in_ok-learnt.learnt.hints c.as_slice-2.result.now c.in_ok-id.id c.trail_state.ensures.state c.requires.under_way.over.clauses c.in_ok-reserve_clauses.ensures.ok (rw c.trail.ensures at c.in_ok-learnt.ensures.learnt) c.clauses.ensures.clauses c.backtrack.ensures.trail c.in_ok-id.ensures.added c.as_slice.ensures c.clauses-2.ensures.clauses c.in_ok-id.ensures.id
+joining g c = joining_from c.args.self.now.spare c.in_ok-learnt.learnt.level c.args.self.now.propagator c.reserve_clauses.new.self c.backtrack.new.self.propagator c.args.book.now.entries c.put_learnt.new.self.entries c.clauses.result.now.clauses c.clauses-2.result.now.clauses c.as_slice.result.now c.in_ok-learnt.learnt.clause c.in_ok-learnt.learnt.hints c.as_slice-2.result.now c.in_ok-id.id c.trail_state.ensures.state c.requires.under_way.over.clauses c.in_ok-reserve_clauses.ensures.ok (rw c.trail-trail.ensures at c.in_ok-learnt.ensures.learnt) c.clauses.ensures.clauses c.backtrack.ensures.trail c.in_ok-id.ensures.added c.as_slice.ensures c.clauses-2.ensures.clauses c.in_ok-id.ensures.id
 
 -- the same, at the end
 joined : (g : given.Over) (c : goal.After-drop-learnt-3 g) → IsJoining c.args.self.now.spare c.reserve_clauses.new.self c.backtrack.new.self.propagator c.clauses-2.result.now.clauses c.in_ok-learnt.learnt.clause c.in_ok-id.id
-joined g c = joining_from c.args.self.now.spare c.in_ok-learnt.learnt.level c.args.self.now.propagator c.reserve_clauses.new.self c.backtrack.new.self.propagator c.args.book.now.entries c.put_learnt.new.self.entries c.clauses.result.now.clauses c.clauses-2.result.now.clauses c.as_slice.result.now c.in_ok-learnt.learnt.clause c.in_ok-learnt.learnt.hints c.as_slice-2.result.now c.in_ok-id.id c.trail_state.ensures.state c.requires.under_way.over.clauses c.in_ok-reserve_clauses.ensures.ok (rw c.trail.ensures at c.in_ok-learnt.ensures.learnt) c.clauses.ensures.clauses c.backtrack.ensures.trail c.in_ok-id.ensures.added c.as_slice.ensures c.clauses-2.ensures.clauses c.in_ok-id.ensures.id
+joined g c = joining_from c.args.self.now.spare c.in_ok-learnt.learnt.level c.args.self.now.propagator c.reserve_clauses.new.self c.backtrack.new.self.propagator c.args.book.now.entries c.put_learnt.new.self.entries c.clauses.result.now.clauses c.clauses-2.result.now.clauses c.as_slice.result.now c.in_ok-learnt.learnt.clause c.in_ok-learnt.learnt.hints c.as_slice-2.result.now c.in_ok-id.id c.trail_state.ensures.state c.requires.under_way.over.clauses c.in_ok-reserve_clauses.ensures.ok (rw c.trail-trail.ensures at c.in_ok-learnt.ensures.learnt) c.clauses.ensures.clauses c.backtrack.ensures.trail c.in_ok-id.ensures.added c.as_slice.ensures c.clauses-2.ensures.clauses c.in_ok-id.ensures.id
 
 pub join-requires-clause-grown : goal.join-requires-clause-grown
 join-requires-clause-grown g c = rw (joining g c).whole (front_one c.backtrack.new.self.propagator.clauses c.in_ok-learnt.learnt.clause)
@@ -56,7 +56,7 @@ join-requires-clause-room g c = let j = (joining g c).room in omega arith
 pub join-requires-clause-quiet : goal.join-requires-clause-quiet
 join-requires-clause-quiet g c =
     let j = joining g c in
-    joins_kept c.reserve_clauses.new.self c.backtrack.new.self.propagator c.clauses.result.now.clauses c.clauses-2.result.now.clauses c.in_ok-learnt.learnt.clause c.in_ok-learnt.learnt.hints c.in_ok-learnt.learnt.level c.in_ok-id.id j.state.justified (rw c.trail.ensures at c.in_ok-learnt.ensures.learnt) c.backtrack.ensures.trail
+    joins_kept c.reserve_clauses.new.self c.backtrack.new.self.propagator c.clauses.result.now.clauses c.clauses-2.result.now.clauses c.in_ok-learnt.learnt.clause c.in_ok-learnt.learnt.hints c.in_ok-learnt.learnt.level c.in_ok-id.id j.state.justified (rw c.trail-trail.ensures at c.in_ok-learnt.ensures.learnt) c.backtrack.ensures.trail
     (rw j.whole (held_last c.backtrack.new.self.propagator.clauses c.in_ok-learnt.learnt.clause c.in_ok-id.id (j.numbered ∙ ap length j.whole)))
 
 pub returns-clause-under_way : goal.returns-clause-under_way
@@ -85,7 +85,7 @@ learns g c =
       hints = c.as_slice-2.result.now;
       put = c.in_ok-id.ensures.added ∙ ap (λ (x : Clause). c.args.book.now.entries ++ learnt x c.as_slice-2.result.now ∷ []) c.as_slice.ensures;
       paid = omega arith;
-      fresh = fresh_from roomy c.args.book.now.entries c.clauses.result.now.clauses c.in_ok-learnt.learnt.clause c.in_ok-learnt.learnt.hints c.in_ok-learnt.learnt.level j.state serving.joined same c.clauses.ensures.clauses (rw c.trail.ensures at c.in_ok-learnt.ensures.learnt);
+      fresh = fresh_from roomy c.args.book.now.entries c.clauses.result.now.clauses c.in_ok-learnt.learnt.clause c.in_ok-learnt.learnt.hints c.in_ok-learnt.learnt.level j.state serving.joined same c.clauses.ensures.clauses (rw c.trail-trail.ensures at c.in_ok-learnt.ensures.learnt);
       known = subst (λ (cs : List Clause). list_all (λ l. is_known_var cs l.var) c.in_ok-learnt.learnt.clause ≡ true) c.clauses.ensures.clauses c.in_ok-learnt.ensures.learnt.known;
     }
 
