@@ -1,5 +1,5 @@
 -- A counter: its inputs, the variables of its columns, and its clauses.
-use Rattle.std.specs.Prelude.{◌≡◌, ◌≢◌, ◌↔◌, ◌⊎◌, ℕ, zero, suc, ◌+◌, ◌-◌, ◌<◌, max, true, false, List, [], ◌∷◌, ◌++◌, map, flat_map, length, Option, None, Some, slice_index_or, Contains}
+use Rattle.std.specs.Prelude.{◌≡◌, ◌≢◌, ◌↔◌, ◌⊎◌, ℕ, zero, suc, ◌+◌, ◌-◌, ◌<◌, max, true, false, List, [], ◌∷◌, ◌++◌, map, flat_map, length, Option, None, Some, slice_index_or, Contains, MatchOption}
 use Rattle.std.specs.List.{range_with_len}
 use Rattle.des_base.specs.Lists.{numbers_below}
 use Rattle.prop_core.specs.declared.lit.Lit.{Lit}
@@ -59,6 +59,10 @@ positive var = record { var = var; positive = true }
 -- the literal that the variable is false
 abbrev pub negative : ℕ → Lit
 negative var = record { var = var; positive = false }
+
+-- what column j counts at input i: that its variable there is true, or nothing if there is no such place
+abbrev pub IsReachedAt : CounterState → ℕ → ℕ → Option Lit → Type 0
+IsReachedAt state i j reached = MatchOption reached (IsPlace state i j → ⊥) (λ literal. IsPlace state i j × (literal ≡ positive (variable state i j)))
 
 -- that inputs reach a number: always, never, or as the truth of a variable says
 pub data Reached : Type 0 where

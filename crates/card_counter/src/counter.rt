@@ -1,7 +1,7 @@
 // A counter: clauses that count how many of its inputs are true, with one column for each number.
 ghost use Rattle.std.specs.Prelude.{◌≡◌, ◌+◌, ◌*◌, ◌-◌, ◌<◌, ◌≤◌, length, OnOk, OnErr, IfOk, All};
 ghost use Rattle.des_base.specs.declared.TheConstants.{VAR_LIMIT};
-ghost use Rattle.card_counter.specs.CounterState.{IsCounter, IsMade, IsPlace, variable, without_columns, with_room, clauses_at, clauses_of_column, clauses_of_input, kept_at, counted_at, bound_literal};
+ghost use Rattle.card_counter.specs.CounterState.{IsCounter, IsMade, IsPlace, IsReachedAt, variable, without_columns, with_room, clauses_at, clauses_of_column, clauses_of_input, kept_at, counted_at, bound_literal};
 ghost use Rattle.card_counter.specs.Counting.{Counts, Bounds};
 ghost use Rattle.card_counter.specs.Growing.{AddsColumn, AddsInput, AddsInputs, AddsWithin, HasRoom, MayCount};
 
@@ -79,6 +79,14 @@ impl Counter {
         self.columns.len() as u32
     }
 
+    /// A law: no column lacks a variable for an input, no two variables are the same, and the columns are few.
+    pub fn is_counter(&self)
+        ensures few { length self.now.columns ≤ 256 }
+        ensures counter { IsCounter self.now }
+    {
+        self.columns();
+    }
+
     /// Adds a column: a new variable for each input, and clauses that say what they count. It uses up reserved room.
     pub fn add_column(&mut self, vars: &mut Vars, out: &mut Clauses) -> Result<(), Memory>
         requires some { 1 ≤ length self.old.inputs }
@@ -127,8 +135,8 @@ impl Counter {
         ensures counter { IsCounter self.new }
         ensures exact { Counts self.new }
     {
-        // Even if there are none to add, the fields show that it is a counter.
-        let _ = &self.inputs;
+        // Even if there are none to add, it is a counter.
+        self.is_counter();
         for input in inputs {
             self.add_input(*input, vars, out);
         }
@@ -160,6 +168,17 @@ impl Counter {
     {
         let last = self.inputs.len() - 1;
         Lit::new(self.variable_at(last, k), false)
+    }
+
+    /// The literal that a column of a number counts at an input, both from 0: of the inputs up to this one more than that number are true.
+    pub fn reached(&self, place: usize, column: u32) -> Option<Lit>
+        ensures { IsReachedAt self.now place column result }
+    {
+        if place < self.inputs() && column < self.columns() {
+            Some(Lit::new(self.variable_at(place, column), true))
+        } else {
+            None
+        }
     }
 
     // The variable of a column at an input.

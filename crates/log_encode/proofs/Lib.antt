@@ -12,3 +12,4 @@ mod CallLemmas
 mod CommitLemmas
 pub mod WrittenLemmas
 mod LogEndLemmas
+pub mod Guards

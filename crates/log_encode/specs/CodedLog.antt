@@ -6,9 +6,11 @@ use Rattle.des_net.specs.Network.{Net}
 use Rattle.log_order.specs.Log.{Log, Alarm, no_log, a_log, an_alarm}
 use Rattle.question_clauses.specs.Additions.{Addition, alarm_added, pair_added, with_addition}
 use Rattle.question_clauses.specs.BesideEvents.{with_events}
-use Rattle.question_clauses.specs.LogClauses.{doubtful_alarms}
+use Rattle.question_clauses.specs.LogClauses.{doubtful_alarms, guard_literals}
 use Rattle.question_clauses.specs.LogNames.{added_meanings, first_meanings, AreLogMeanings}
+use Rattle.prop_core.specs.Listings.{literal_by}
 use Rattle.prop_core.specs.declared.grid.Grid.{Grid}
+use Rattle.prop_core.specs.declared.lit.Lit.{Lit}
 use Rattle.prop_core.specs.VariableNames.{Meaning, NamedLiteral, yes, dropped}
 use Rattle.question_clauses.specs.LaidOut.{laid_out}
 
@@ -45,6 +47,10 @@ log_meanings code = laid_out code.asked (first_meanings code.net) ++ meanings_fr
 -- those that its clauses have: of the events too
 abbrev pub read_meanings : CodedLog → List (ℕ × Meaning)
 read_meanings code = with_events code.net code.grid.steps code.grid.first (log_meanings code)
+
+-- the guards of the log, as literals in their order
+abbrev pub log_guards : CodedLog → List Lit
+log_guards code = map (literal_by (read_meanings code)) (guard_literals code.net code.log)
 
 -- that an alarm is false, for each doubtful one
 abbrev pub false_literals : Log → List NamedLiteral

@@ -1,5 +1,5 @@
 // An addition to the code of a log, before it is made.
-ghost use Rattle.std.specs.Prelude.{◌≡◌, length};
+ghost use Rattle.std.specs.Prelude.{◌≡◌};
 
 use crate::alarm_code::AlarmCode;
 use crate::log_code::LogCode;

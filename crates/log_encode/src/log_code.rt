@@ -9,7 +9,7 @@ ghost use Rattle.prop_core.specs.NamedClauses.{value_by};
 ghost use Rattle.prop_core.specs.VariableNames.{ReadsAs, meaning_of, named_clause, done};
 ghost use Rattle.log_encode.specs.AlarmState.{variables_of, is_matched};
 ghost use Rattle.log_encode.specs.AlarmVariables.{AreWithinLimit, alarm_width, done_variable, dropped_variable};
-ghost use Rattle.log_encode.specs.CodedLog.{IsCodedLog, empty_code, code_after, log_meanings, false_literals, read_meanings, nameless, addition_width};
+ghost use Rattle.log_encode.specs.CodedLog.{IsCodedLog, empty_code, code_after, log_meanings, false_literals, log_guards, read_meanings, nameless, addition_width};
 ghost use Rattle.log_encode.specs.Drafted.{IsDraftOf, IsStepOfAlarm, IsUnpassed, HasRoomFor};
 ghost use Rattle.log_encode.specs.WrittenLog.{AppendsFirst};
 
@@ -230,6 +230,14 @@ impl LogCode {
         ensures whole { IsCodedLog self.now.coded }
     {
         self.guards.as_slice()
+    }
+
+    /// A law: the guards of the log, in their order, are literals of its meanings, and the code is whole.
+    pub fn has_guards(&self)
+        ensures guards { ReadsAs (read_meanings self.now.coded) (log_guards self.now.coded) (guard_literals self.now.coded.net self.now.coded.log) }
+        ensures whole { IsCodedLog self.now.coded }
+    {
+        let _guards = self.guards();
     }
 
     /// That an alarm is false, for each doubtful alarm of the log.

@@ -5,7 +5,7 @@ ghost use Rattle.des_base.specs.declared.TheConstants.{VAR_LIMIT};
 ghost use Rattle.card_counter.specs.AtMostOne.{exclusion_clauses};
 ghost use Rattle.card_counter.specs.CounterState.{positive, negative};
 ghost use Rattle.log_encode.specs.AlarmVariables.{AreWithinLimit, done_variable};
-ghost use Rattle.log_encode.specs.Written.{alarm_written, all_closed_written, closed_written, done_written, dropped_written, ends_written, link_variables, link_written, links_written, matches_at, pair_written, real_of_link, real_written, reals_written, step_written, steps_of_link, HasRest};
+ghost use Rattle.log_encode.specs.Written.{alarm_written, all_closed_written, closed_written, done_written, dropped_written, link_variables, link_written, links_written, matches_at, pair_written, real_of_link, real_written, reals_written, step_written, steps_of_link, HasRest};
 
 use crate::alarm_vars::AlarmVars;
 use crate::taken::{ChainEnd, Taken};

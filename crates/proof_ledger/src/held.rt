@@ -1,5 +1,5 @@
 // The clauses that a checker holds, by their numbers.
-ghost use Rattle.std.specs.Prelude.{◌≡◌, ℕ, ◌==◌, ◌∷◌, [], None, Some, true, IfOk, OnOk, IfSome, if◌then◌else◌, length, slice_index_or, vec_len};
+ghost use Rattle.std.specs.Prelude.{◌≡◌, ℕ, ◌==◌, ◌∷◌, [], None, Some, true, IfOk, OnOk, IfSome, if◌then◌else◌, length, slice_index_or};
 ghost use Rattle.std.specs.BTreeMap.{get};
 ghost use Rattle.std.specs.Option.{option_copied};
 ghost use Rattle.std.specs.Ordering.{nat_cmp};

@@ -112,6 +112,13 @@ impl Ledger {
         self.entries.len() as u64
     }
 
+    /// A law: each learnt and each final clause of the book derives from the clauses before it.
+    pub fn is_valid(&self)
+        ensures { IsValidBook self.now.entries }
+    {
+        self.entries();
+    }
+
     /// The entry at a place, from 0.
     pub fn entry(&self, place: u64) -> Entry
         requires { place < length self.now.entries }

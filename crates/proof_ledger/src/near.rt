@@ -1,5 +1,5 @@
 // Clauses by places that lie close together.
-ghost use Rattle.std.specs.Prelude.{◌≡◌, ℕ, ◌==◌, ◌≤◌, ◌<◌, ◌^◌, [], length, map, None, Some, OnOk, IfOk, slice_index_or, vec_len, if◌then◌else◌};
+ghost use Rattle.std.specs.Prelude.{◌≡◌, ℕ, ◌==◌, ◌≤◌, ◌<◌, [], length, map, None, Some, OnOk, IfOk, slice_index_or, vec_len, if◌then◌else◌};
 ghost use Rattle.std.specs.Option.{option_copied};
 ghost use Rattle.prop_core.specs.Derivation.{clause_numbered};
 ghost use Rattle.proof_ledger.specs.ClauseNumbers.{AreNumbersOf, KeepsNumbers};
