@@ -13,7 +13,7 @@ use Rattle.des_base.specs.Lists.{Extends}
 use Rattle.des_base.specs.Refusing.{SucceedsUnless}
 use Rattle.des_base.specs.declared.memory.Memory.{Memory as NoMemory}
 use Rattle.des_net.specs.Network.{Net}
-use Rattle.least_faults.proofs.Freshness.{fresh_none}
+use Rattle.sat_solve.proofs.Freshness.{fresh_none}
 use Rattle.log_csv.specs.declared.row.Row.{Row}
 use Rattle.log_csv.specs.declared.row.Row.TheVariants.{Alarm, Maybe, Before, Ask}
 use Rattle.log_order.specs.Adding.{with_alarm, with_texts}
@@ -155,8 +155,8 @@ module _ (net : Net) (n budget : ℕ) (old : Stage) (row : Row) (new : Stage) wh
   row_extends Made is = record { more = map axiomatic is.tells.few.axioms; is = is.tells.few.more }
   row_extends (Refused refusal) is = record { more = []; is = ap (λ (s : Stage). s.book) is.tells.same ∙ sym (append-nil old.book) }
   row_extends (Answered found) is =
-      let since = is.tells.told.answered.since in
-      record { more = (mark 0 ∷ since) ++ mark 1 ∷ []; is = is.tells.told.answered.whole ∙ append_assoc old.book (mark 0 ∷ since) (mark 1 ∷ []) }
+      let since = is.tells.told.answered.left.since in
+      record { more = (mark 0 ∷ since) ++ mark 1 ∷ []; is = is.tells.told.answered.left.whole ∙ append_assoc old.book (mark 0 ∷ since) (mark 1 ∷ []) }
 
 -- a question adds nothing
 pub nothing_added : (net : Net) (n : ℕ) (stage : Stage) (row : Row) → row ≡ Ask → Becomes net n (with_row stage.log row) (row_addition stage.log row) stage stage

@@ -5,7 +5,7 @@ use Rattle.alarm_session.specs.declared.kept.Kept.{Kept}
 use Rattle.des_net.specs.Network.{Net}
 use Rattle.least_faults.proofs.Roomless.{answered_roomless, columns_roomless}
 use Rattle.least_faults.specs.Answers.{IsAnswered, IsOpenAtMost}
-use Rattle.least_faults.specs.Growing.{AddsAxioms, HasGrownWithin, KeepsQuestion}
+use Rattle.least_faults.specs.Growing.{HasGrownWithin, KeepsQuestion}
 use Rattle.least_faults.specs.Parts.{IsBuilt, built_of, meanings_of_parts}
 use Rattle.answers.specs.declared.found.Found.{Found}
 use Rattle.log_order.specs.Log.{no_log}
@@ -13,6 +13,7 @@ use Rattle.proof_ledger.specs.Book.{BookEntry, axiomatic, axioms_of, IsValidBook
 use Rattle.run_decode.specs.QuestionAxioms.{BuiltQuestion, question_built, roomless}
 use Rattle.step_encode.specs.Coded.{CodedSteps}
 use Rattle.proof_ledger.proofs.AxiomLists.{axioms_added}
+use Rattle.sat_solve.specs.Leaving.{AddsAxioms}
 
 -- the parts of an empty log's question, and their book
 pub stage_begun : {R : Type 0} (net : Net) (n : ℕ) (kept : Kept R) (old : List BookEntry) → kept.log ≡ no_log → old ≡ [] → AddsAxioms old kept.book.entries → kept.parts.counter.columns ≡ [] → IsBuilt net kept.log n kept.parts kept.book.entries →

@@ -162,6 +162,13 @@ impl<'a, R: Fn(u32) -> u64> Session<'a, R> {
         &self.kept.log
     }
 
+    /// A law: the book is that of the session, and asks about its log.
+    pub fn is_sound(&self)
+        ensures { IsSessionBook self.now.net self.now.steps self.now.stage }
+    {
+        is_session_book(self.setting, &self.kept);
+    }
+
     /// The book so far. Its axioms are those of the question as it is built, in their order, and pose the question of the log. It
     /// is valid, and lean: the number of its axioms is bounded by the size of that question, however often it was asked.
     pub fn book(&self) -> &Ledger

@@ -10,6 +10,6 @@ pub fn is_session_book<R>(setting: Setting<'_>, kept: &Kept<R>)
 {
     setting.net.is_built();
     kept.log.is_whole();
-    let _entries = kept.book.entries();
-    let _guards = kept.parts.code.guards();
+    kept.book.is_valid();
+    kept.parts.code.has_guards();
 }

@@ -12,7 +12,7 @@ use Rattle.least_faults.proofs.Solved.{CanSearch}
 use Rattle.least_faults.specs.Parts.{BelongTo}
 use Rattle.least_faults.specs.declared.parts.Parts.{Parts}
 use Rattle.question_clauses.specs.LogClauses.{guard_literals}
-use Rattle.log_encode.specs.CodedLog.{CodedLog, read_meanings, without_names}
+use Rattle.log_encode.specs.CodedLog.{CodedLog, read_meanings, without_names, log_guards}
 use Rattle.log_order.specs.Log.{Log, IsValidLog}
 use Rattle.proof_ledger.specs.Book.{BookEntry, axioms_of, IsValidBook}
 use Rattle.prop_core.specs.Clauses.{Clause, HasValues, AllClausesTrue, AllLiteralsTrue, clause_true, literal_true, value_in}
@@ -32,12 +32,12 @@ use Rattle.weight_counter.specs.declared.scale.Scale.{Scale}
 use Rattle.weight_counter.specs.declared.weighted.Weighted.{Weighted}
 use Rattle.cost_least.proofs.Asked.{told_at, costs_are_ruled_out, within_limit}
 use Rattle.cost_least.proofs.Asks.{asks_costs}
-use Rattle.cost_least.proofs.Weighed.{searching_of}
+use Rattle.sat_solve.proofs.Leaving.{searching_searched}
 use Rattle.cost_least.specs.Answers.{PoseCostQuestion, IsPriced}
 use Rattle.cost_least.specs.Asking.{HasAskedCost, IsTrueCostAnswer}
 use Rattle.cost_least.specs.Pricing.{PosesCosts, cost_limit}
 use Rattle.cost_least.specs.Searching.{IsSolvedUnder, IsTotalOf, MayBound, asked_of}
-use Rattle.cost_least.specs.Weighed.{AreWeighed, AreWeighedParts, log_guards, assumed_at}
+use Rattle.cost_least.specs.Weighed.{AreWeighed, AreWeighedParts, assumed_at}
 use Rattle.answers.specs.declared.cheap.Priced.{Priced}
 use Rattle.cost_least.specs.declared.asking.CostAnswer.{CostAnswer}
 use Rattle.cost_least.specs.declared.asking.CostAnswer.TheVariants.{Explained, Refuted, Spent}
@@ -118,8 +118,8 @@ pub solved : {E : Type 0} (slice items assumed : List Lit) (values : List Bool) 
     IfOk result (IsSolvedUnder assumed values mid new before after)
 solved slice items assumed values mid new before after (Err error) same is known searched put says = tt
 solved slice items assumed values mid new before after (Ok answer) same is known searched put says = record {
-  searching = searching_of mid new before after searched known;
-  put = put_since mid new (searching_of mid new before after searched known).since answer (searching_of mid new before after searched known).whole put;
+  searching = searching_searched mid new before after searched known;
+  put = put_since mid new (searching_searched mid new before after searched known).since answer (searching_searched mid new before after searched known).whole put;
   says = subst (λ (xs : List Lit). IsAnswer values new xs after answer) (same ∙ is) says;
 }
 
@@ -143,7 +143,8 @@ module _ {R : Type 0} (may : R → ℕ → Type 0) (gives : R → ℕ → ℕ �
       let tells = told cost parts.step parts.code.coded parts.counter parts.vars (axioms_of new) scale weighed.coded net log belong.of_steps network valid belong.same_log read bound may_bound in
       with_meaning (solver.Unsat number) is Refuted (record {
         out = costs_are_ruled_out (asked_of net cost log parts) bound (axioms_of new) (assumed_at parts.code.coded scale bound) is.put.clause tells (final_entailed new is.put.clause is.put.hints book ends.there) ends.negates;
-        ends = record { before = is.put.before; clause = is.put.clause; hints = is.put.hints; whole = is.put.whole; learnt = is.put.all_learnt; negates = ends.negates };
+        ends = is.put;
+        negates = ends.negates;
       })
 
   pub shown_run : answer ≡ solver.Sat → IsTrueRun parts.step parts.code.coded (value_in parts.solver.assignment)

@@ -6,7 +6,7 @@ use Rattle.card_counter.specs.CounterState.{CounterState, negative}
 use Rattle.des_net.specs.Network.{IsNetwork}
 use Rattle.event_costs.specs.declared.TheConstants.{MOST_COST}
 use Rattle.question_clauses.specs.LogClauses.{guard_literals}
-use Rattle.log_encode.specs.CodedLog.{CodedLog, read_meanings, without_names}
+use Rattle.log_encode.specs.CodedLog.{CodedLog, read_meanings, without_names, log_guards}
 use Rattle.log_order.specs.Log.{Log, IsValidLog}
 use Rattle.proof_ledger.specs.Book.{BookEntry}
 use Rattle.prop_core.specs.Clauses.{Clause, AllClausesTrue, literal_true}
@@ -26,7 +26,7 @@ use Rattle.cost_least.specs.Answers.{CostAsked, Needs, IsPriced, IsCostEvidence,
 use Rattle.cost_least.specs.Costs.{total}
 use Rattle.cost_least.specs.Pricing.{ExplainsAt, PosesCosts}
 use Rattle.cost_least.specs.Searching.{MayBound, CostsAreRuledOut}
-use Rattle.cost_least.specs.Weighed.{AreWeighedParts, log_guards, assumed_at}
+use Rattle.cost_least.specs.Weighed.{AreWeighedParts, assumed_at}
 use Rattle.answers.specs.declared.cheap.Priced.{Priced}
 use Rattle.prop_core.proofs.Premises.{negated}
 

@@ -7,7 +7,7 @@ use Rattle.card_counter.specs.CounterState.{CounterState, counter_meanings}
 use Rattle.des_net.specs.Network.{IsNetwork}
 use Rattle.least_faults.proofs.Below.{AreBelow, names_below}
 use Rattle.question_clauses.specs.LogClauses.{guard_literals, doubtful_alarms}
-use Rattle.log_encode.specs.CodedLog.{CodedLog, read_meanings, without_names, log_meanings}
+use Rattle.log_encode.specs.CodedLog.{CodedLog, read_meanings, without_names, log_meanings, log_guards}
 use Rattle.question_clauses.specs.LogCodes.{AreAmong}
 use Rattle.log_order.specs.Log.{Log, IsValidLog}
 use Rattle.question_clauses.proofs.LogCodes.{named_entry}
@@ -29,7 +29,7 @@ use Rattle.weight_counter.specs.declared.weighted.Weighted.{Weighted}
 use Rattle.cost_least.proofs.Inputs.{zip_inputs, names_are, weights_are, literals_are, false_count_is}
 use Rattle.cost_least.proofs.Pricing.{costs_are_told}
 use Rattle.cost_least.specs.Pricing.{named_weights, IsInput, AsksCosts, TellsCosts}
-use Rattle.cost_least.specs.Weighed.{ScaledPartsTell, AreWeighedParts, fault_weights, weighs_one, log_guards}
+use Rattle.cost_least.specs.Weighed.{ScaledPartsTell, AreWeighedParts, fault_weights, weighs_one}
 
 -- variables from a number on have no name, where names are below it
 pub nameless_above : (vars : ℕ) (names : List (ℕ × Meaning)) → AreBelow vars names → (var : ℕ) → vars ≤ var → meaning_of names var ≡ None

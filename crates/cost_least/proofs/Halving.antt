@@ -1,5 +1,5 @@
 -- The search by halving: what it has come to, and where it ends.
-use Rattle.std.proofs.Common.{◌≡◌, ◌∙◌, ◌⊎◌, inl, inr, ℕ, suc, ◌+◌, ◌-◌, ◌<◌, ◌≤◌, List, [], ◌∷◌, ◌++◌, Option, None, Some, refl, sym, ap, subst, arith, Contains, append_assoc, append-nil}
+use Rattle.std.proofs.Common.{◌≡◌, ◌∙◌, ◌⊎◌, inl, inr, ℕ, suc, ◌+◌, ◌-◌, ◌<◌, ◌≤◌, List, [], ◌∷◌, ◌++◌, Option, None, Some, sym, ap, subst, arith, Contains, append-nil}
 use Rattle.std.specs.Prelude.{min}
 use Rattle.std.specs.List.{AllByRecursion}
 use Rattle.std.proofs.lemmas.Bool.{cases_lt}
@@ -7,13 +7,12 @@ use Rattle.std.proofs.lemmas.List.Elements.{Contains-append_cases, Contains-appe
 use Rattle.card_counter.specs.CounterState.{negative}
 use Rattle.des_base.proofs.Elements.{cons_cases, none_in_nil}
 use Rattle.event_costs.specs.declared.TheConstants.{MOST_COST}
-use Rattle.least_faults.proofs.Climbing.{no_more, searching_further, searching_none}
+use Rattle.sat_solve.proofs.Leaving.{no_more, searching_further, searching_none, each_both, each_none, last_later, last_before, finals_before, closed_counted, closed_each, closed_last}
 use Rattle.least_faults.proofs.Entailing.{final_entailed}
-use Rattle.least_faults.specs.Asking.{PutsNoFinal}
-use Rattle.least_faults.specs.Evidence.{HasFinal, HasLastFinal, is_final}
-use Rattle.run_decode.proofs.Faults.{count_append}
+use Rattle.sat_solve.specs.Leaving.{PutsNoFinal, HasFinal, HasLastFinal, EachFinal}
+use Rattle.least_faults.specs.Evidence.{is_final}
 use Rattle.question_clauses.proofs.Lists.{all_at}
-use Rattle.log_encode.specs.CodedLog.{CodedLog}
+use Rattle.log_encode.specs.CodedLog.{CodedLog, log_guards}
 use Rattle.proof_ledger.specs.Book.{BookEntry, final, axioms_of, clauses_of, IsValidBook}
 use Rattle.prop_core.specs.Clauses.{Clause, HasValues, negation, NegatesOnly}
 use Rattle.prop_core.specs.Trail.{Clashes}
@@ -21,25 +20,36 @@ use Rattle.prop_core.specs.declared.lit.Lit.{Lit}
 use Rattle.replay.specs.Matching.{order_of}
 use Rattle.replay.specs.Traced.{word_of}
 use Rattle.run_decode.proofs.Tells.{told_is_refuted}
-use Rattle.sat_solve.specs.Searching.{AreLearnt, IsClosedByFinal}
+use Rattle.sat_solve.specs.Searching.{AreLearnt}
 use Rattle.weight_counter.specs.Scales.{place_variable}
 use Rattle.weight_counter.specs.declared.scale.Scale.{Scale}
 use Rattle.cost_least.proofs.Asked.{ends_cheapest, ends_dear, needed}
-use Rattle.cost_least.proofs.Finding.{ends_counted, found_by}
-use Rattle.cost_least.specs.Answers.{CostAsked, FinalsNegateCosts, NegatesCost, PoseCostQuestion, IsPriced, Needs, IsHalfway, IsCostEvidence}
+use Rattle.cost_least.proofs.Finding.{found_by}
+use Rattle.cost_least.specs.Answers.{CostAsked, NegatesCost, PoseCostQuestion, IsPriced, Needs, IsHalfway, IsCostEvidence}
 use Rattle.cost_least.specs.Asking.{HasAskedCost}
 use Rattle.cost_least.specs.Pricing.{ExplainsAt}
-use Rattle.cost_least.specs.Searching.{HasHalved, HasFoundCost, HasRefusedCosts, FinalsAreBelowTotal}
-use Rattle.cost_least.specs.Weighed.{log_guards, assumed_at}
+use Rattle.cost_least.specs.Searching.{NegatesTotalBelow, HasHalved, HasFoundCost, HasRefusedCosts}
+use Rattle.cost_least.specs.Weighed.{assumed_at}
 use Rattle.answers.specs.declared.cheap.Cheap.TheVariants.{Found, Dear, Undecided}
 use Rattle.answers.specs.declared.cheap.Priced.{Priced}
 use Rattle.cost_least.specs.declared.asking.CostAnswer.TheVariants.{Explained, Refuted, Spent}
 use Rattle.prop_core.proofs.Negations.{NegatesLast, split_negates}
-use Rattle.sat_solve.proofs.Entries.{learnt_no_final, no_final_in, none_joined, only_final}
+use Rattle.sat_solve.proofs.Entries.{learnt_no_final, counted_both}
 
 -- literals of two amounts are not the same
 same_amount : (scale : Scale) (i j b : ℕ) → negative (place_variable scale i j) ≡ negative (place_variable scale i b) → j ≡ b
 same_amount scale i j b same = let vars = ap (λ (l : Lit). l.var) same in omega (arith, vars)
+
+-- Each final entry refutes a total below lo, which is one that may be asked for.
+negates_cost : (q : CostAsked) (code : CodedLog) (scale : Scale) (old new : List BookEntry) (budget left lo : ℕ) (best : Priced) (axioms : List Clause) → (come : HasHalved q code scale old new budget left lo best) →
+    ((b : ℕ) → b ≤ MOST_COST → 0 < scale.inputs → PoseCostQuestion q (Some b) axioms (assumed_at code scale (Some b))) → EachFinal (NegatesCost q axioms) come.searching.since
+negates_cost q code scale old new budget left lo best axioms come told clause hints in' =
+    let found = come.finals clause hints in' in
+    let low = found.1 in
+    let least = needed q lo best come.needs come.given in
+    let reached = come.reached in
+    let few : found.0 ≤ MOST_COST = omega (arith, low, reached) in
+    record { bound = Some found.0; few = few; assumed = assumed_at code scale (Some found.0); told = told found.0 few (come.counted (omega (arith, least, low))); negates = found.2 }
 
 -- ---- one step
 
@@ -58,24 +68,11 @@ module _ (q : CostAsked) (code : CodedLog) (scale : Scale) where
 
   module _ (old mid new : List BookEntry) (budget before after lo : ℕ) (best : Priced) (come : HasHalved q code scale old mid budget before lo best) where
     -- learnt entries change nothing of what is refuted
-    learnt_finals : (more : List BookEntry) → AreLearnt more → FinalsAreBelowTotal code scale lo (come.searching.since ++ more)
-    learnt_finals more learnt clause hints in' = by (Contains-append_cases come.searching.since more (final clause hints) in')
-      where
-        by : Contains come.searching.since (final clause hints) ⊎ Contains more (final clause hints) → (j : ℕ) × (j < lo) × NegatesOnly (assumed_at code scale (Some j)) clause
-        by (inl first) = come.finals clause hints first
-        by (inr later) = absurd (no_final_in more clause hints (learnt_no_final more learnt) later)
+    learnt_finals : (more : List BookEntry) → AreLearnt more → EachFinal (NegatesTotalBelow code scale lo) (come.searching.since ++ more)
+    learnt_finals more learnt = each_both (NegatesTotalBelow code scale lo) come.searching.since more come.finals (each_none (NegatesTotalBelow code scale lo) more (learnt_no_final more learnt))
 
     learnt_last : (more : List BookEntry) → AreLearnt more → (b : ℕ) → lo ≡ suc b → HasLastFinal (come.searching.since ++ more) (assumed_at code scale (Some b))
-    learnt_last more learnt b is =
-        let last = come.last b is in record {
-          earlier = last.earlier;
-          clause = last.clause;
-          hints = last.hints;
-          later = last.later ++ more;
-          whole = ap (λ xs. xs ++ more) last.whole ∙ append_assoc last.earlier (final last.clause last.hints ∷ last.later) more;
-          last = none_joined last.later more last.last (learnt_no_final more learnt);
-          negates = last.negates;
-        }
+    learnt_last more learnt b is = last_before come.searching.since more (assumed_at code scale (Some b)) (learnt_no_final more learnt) (come.last b is)
 
     pub halved_better : (bound : Option ℕ) (better : Priced) → HasAskedCost q code scale bound mid new before after (Explained better) → HasHalved q code scale old new budget after lo better
     halved_better bound better asked = record {
@@ -93,7 +90,7 @@ module _ (q : CostAsked) (code : CodedLog) (scale : Scale) where
     halved_refuted b between asked = record {
       searching = searching_further old mid new budget before after come.searching asked.searching;
       finals = finals;
-      few = (let all = count_append is_final come.searching.since asked.searching.since in let one = ends_counted asked.searching.since asked.means.ends in let low = between.low in omega (arith, all, one, low, come.few));
+      few = (let all = counted_both is_final come.searching.since asked.searching.since in let one = closed_counted asked.searching.since asked.means.ends in let low = between.low in omega (arith, all, one, low, come.few));
       last = λ b' is. subst (λ k. HasLastFinal (come.searching.since ++ asked.searching.since) (assumed_at code scale (Some k))) (let same : b ≡ b' = omega (arith, is) in same) last;
       needs = subst (Needs q) (let next : suc b ≡ b + 1 = omega arith in next) asked.means.out;
       reached = (let few = between.few in omega (arith, few));
@@ -101,26 +98,13 @@ module _ (q : CostAsked) (code : CodedLog) (scale : Scale) where
       counted = come.counted;
     }
       where
-        closed : IsClosedByFinal asked.searching.since
-        closed = let ends = asked.means.ends in record { before = ends.before; clause = ends.clause; hints = ends.hints; whole = ends.whole; all_learnt = ends.learnt }
-
-        finals : FinalsAreBelowTotal code scale (b + 1) (come.searching.since ++ asked.searching.since)
-        finals clause hints in' = by (Contains-append_cases come.searching.since asked.searching.since (final clause hints) in')
-          where
-            by : Contains come.searching.since (final clause hints) ⊎ Contains asked.searching.since (final clause hints) → (j : ℕ) × (j < b + 1) × NegatesOnly (assumed_at code scale (Some j)) clause
-            by (inl first) = let found = come.finals clause hints first in let low = between.low in (found.0, omega (arith, found.1, low), found.2)
-            by (inr later) = (b, omega arith, subst (NegatesOnly (assumed_at code scale (Some b))) (sym (only_final asked.searching.since clause hints closed later)) asked.means.ends.negates)
+        finals : EachFinal (NegatesTotalBelow code scale (b + 1)) (come.searching.since ++ asked.searching.since)
+        finals = each_both (NegatesTotalBelow code scale (b + 1)) come.searching.since asked.searching.since
+            (λ clause hints in'. let found = come.finals clause hints in' in let low = between.low in (found.0, omega (arith, found.1, low), found.2))
+            (λ clause hints in'. (b, omega arith, closed_each asked.searching.since (assumed_at code scale (Some b)) asked.means.ends asked.means.negates clause hints in'))
 
         last : HasLastFinal (come.searching.since ++ asked.searching.since) (assumed_at code scale (Some b))
-        last = let ends = asked.means.ends in record {
-          earlier = come.searching.since ++ ends.before;
-          clause = ends.clause;
-          hints = ends.hints;
-          later = [];
-          whole = ap (λ xs. come.searching.since ++ xs) ends.whole ∙ sym (append_assoc come.searching.since ends.before (final ends.clause ends.hints ∷ []));
-          last = refl;
-          negates = ends.negates;
-        }
+        last = last_later come.searching.since asked.searching.since (assumed_at code scale (Some b)) (closed_last asked.searching.since (assumed_at code scale (Some b)) asked.means.ends asked.means.negates)
 
     -- where the budget is spent nothing is refuted
     pub halved_spent : (b : ℕ) → HasAskedCost q code scale (Some b) mid new before after Spent → HasHalved q code scale old new budget after lo best
@@ -145,15 +129,8 @@ module _ (q : CostAsked) (code : CodedLog) (scale : Scale) where
         let reached = come.reached in
         record { assumed = assumed_at code scale (Some b); refuted = come.last b is; told = told b (omega (arith, is, reached)) (come.counted (omega (arith, least, is))) }
 
-    -- each final entry refutes a total below lo, which is one that may be asked for
-    finals_negate : FinalsNegateCosts q (axioms_of new) come.searching.since
-    finals_negate clause hints in' =
-        let found = come.finals clause hints in' in
-        let low = found.1 in
-        let least = needed q lo best come.needs come.given in
-        let reached = come.reached in
-        let few : found.0 ≤ MOST_COST = omega (arith, low, reached) in
-        record { bound = Some found.0; few = few; assumed = assumed_at code scale (Some found.0); told = told found.0 few (come.counted (omega (arith, least, low))); negates = found.2 }
+    finals_negate : EachFinal (NegatesCost q (axioms_of new)) come.searching.since
+    finals_negate = negates_cost q code scale old new budget left lo best (axioms_of new) come told
 
     pub halved_cheapest : min best.cost (1 + MOST_COST) ≤ lo → best.cost ≤ MOST_COST → HasFoundCost q budget old new (Found best)
     halved_cheapest end few = found_by q old new budget left come.searching (Found best) tt finals_negate (omega (arith, come.few, come.reached)) (ends_cheapest q (axioms_of new) come.searching.since lo best come.needs come.given end few evidence)
@@ -225,19 +202,9 @@ module _ (q : CostAsked) (code : CodedLog) (scale : Scale) where
 -- the totals that were refuted so far, where nothing more is
 pub halved_quits : (q : CostAsked) (code : CodedLog) (scale : Scale) (first old new : List BookEntry) (budget left lo : ℕ) (best : Priced) → HasHalved q code scale first old budget left lo best → PutsNoFinal old new →
     ((b : ℕ) → b ≤ MOST_COST → 0 < scale.inputs → PoseCostQuestion q (Some b) (axioms_of new) (assumed_at code scale (Some b))) → HasRefusedCosts q first new
-halved_quits q code scale first old new budget left lo best come quit told = record {
-  since = come.searching.since ++ quit.since;
-  whole = quit.whole ∙ ap (λ b. b ++ quit.since) come.searching.whole ∙ append_assoc first come.searching.since quit.since;
-  finals = λ clause hints in'. by clause hints (Contains-append_cases come.searching.since quit.since (final clause hints) in');
-  few = (let all = no_more lo come.searching.since quit.since come.few quit.none in omega (arith, all, come.reached));
-}
-  where
-    by : (clause : Clause) (hints : List ℕ) → Contains come.searching.since (final clause hints) ⊎ Contains quit.since (final clause hints) → NegatesCost q (axioms_of new) clause
-    by clause hints (inl first') =
-        let found = come.finals clause hints first' in
-        let low = found.1 in
-        let least = needed q lo best come.needs come.given in
-        let reached = come.reached in
-        let few : found.0 ≤ MOST_COST = omega (arith, low, reached) in
-        record { bound = Some found.0; few = few; assumed = assumed_at code scale (Some found.0); told = told found.0 few (come.counted (omega (arith, least, low))); negates = found.2 }
-    by clause hints (inr later) = absurd (no_final_in quit.since clause hints quit.none later)
+halved_quits q code scale first old new budget left lo best come quit told = finals_before (NegatesCost q (axioms_of new)) (1 + MOST_COST) first old new (record {
+  since = come.searching.since;
+  whole = come.searching.whole;
+  finals = negates_cost q code scale first old budget left lo best (axioms_of new) come told;
+  few = (let few = come.few in let reached = come.reached in omega (arith, few, reached));
+}) quit

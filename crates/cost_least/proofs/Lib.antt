@@ -6,7 +6,6 @@ mod Pushed
 mod EntrySums
 mod FoundCosts
 mod Asked
-mod Guards
 mod Writing
 mod Asks
 mod Weighed

@@ -4,29 +4,30 @@ use Rattle.std.specs.Prelude.{min}
 use Rattle.des_net.specs.Network.{Net, IsNetwork}
 use Rattle.event_costs.specs.StoredCosts.{GivesCosts}
 use Rattle.event_costs.specs.declared.TheConstants.{MOST_COST}
-use Rattle.least_faults.specs.Asking.{PutsNoFinal}
+use Rattle.sat_solve.specs.Leaving.{PutsNoFinal}
 use Rattle.least_faults.specs.Parts.{BelongTo}
 use Rattle.least_faults.specs.declared.parts.Parts.{Parts}
 use Rattle.question_clauses.specs.LogClauses.{guard_literals}
-use Rattle.log_encode.specs.CodedLog.{read_meanings}
+use Rattle.log_encode.specs.CodedLog.{read_meanings, log_guards}
 use Rattle.log_order.specs.Log.{Log, IsValidLog}
 use Rattle.proof_ledger.specs.Book.{BookEntry, axioms_of, IsValidBook}
 use Rattle.prop_core.specs.VariableNames.{ReadsAs}
 use Rattle.weight_counter.specs.declared.scale.Scale.{Scale}
 use Rattle.cost_least.proofs.Answering.{told, guards_before}
-use Rattle.cost_least.proofs.Finding.{asked_back, coded_back, found_absent, found_later, found_nothing, found_still, refused_later, refused_still}
+use Rattle.cost_least.proofs.Finding.{asked_back, coded_back, found_absent, found_later, found_nothing, found_still, refused_still}
 use Rattle.cost_least.proofs.Halving.{halved_none, halved_quits, halved_better, halved_refuted, halved_spent, halved_cheapest, halved_dear, halved_undecided}
 use Rattle.cost_least.proofs.Weighed.{goes_both, goes_none}
-use Rattle.cost_least.specs.Answers.{CostAsked, PoseCostQuestion, IsPriced, IsHalfway}
+use Rattle.cost_least.specs.Answers.{CostAsked, PoseCostQuestion, IsPriced, IsHalfway, NegatesCost}
 use Rattle.cost_least.specs.Asking.{HasAskedCost}
 use Rattle.cost_least.specs.Searching.{AreAsked, GoesOnWeighed, HasFoundCost, HasHalved, HasRefusedCosts, MayBound, asked_of}
-use Rattle.cost_least.specs.Weighed.{AreWeighed, AreWeighedParts, log_guards, assumed_at}
+use Rattle.cost_least.specs.Weighed.{AreWeighed, AreWeighedParts, assumed_at}
 use Rattle.answers.specs.declared.cheap.Cheap.{Cheap}
 use Rattle.answers.specs.declared.cheap.Cheap.TheVariants.{Found, Absent, Dear, Undecided}
 use Rattle.answers.specs.declared.cheap.Priced.{Priced}
 use Rattle.cost_least.specs.declared.asking.CostAnswer.{CostAnswer}
 use Rattle.cost_least.specs.declared.asking.CostAnswer.TheVariants.{Explained, Refuted, Spent}
 use Rattle.sat_solve.proofs.Entries.{learnt_no_final}
+use Rattle.sat_solve.proofs.Leaving.{finals_later}
 
 -- what the search has come to
 pub record HasComeTo {R C : Type 0} (may : R → ℕ → Type 0) (gives : R → ℕ → ℕ → Type 0) (answers : C → ℕ → ℕ → Type 0) (stored : C) (net : Net) (log : Log) (begun now : Parts R) (scale : Scale) (first new : List BookEntry) (budget left lo : ℕ) (best : Priced) : Type 0 where
@@ -143,13 +144,13 @@ module _ {R C : Type 0} (may : R → ℕ → Type 0) (gives : R → ℕ → ℕ 
       pub quits_later : (q : CostAsked) (last : List BookEntry) (known : Priced) → given ≡ Explained known → HasRefusedCosts q new last → HasRefusedCosts q first last
       quits_later q last known same refused =
           let here = first_asked (Explained known) same in
-          refused_later q first new last here.searching.since here.searching.whole (learnt_no_final here.searching.since here.means.learnt) refused
+          finals_later (NegatesCost q (axioms_of last)) (1 + MOST_COST) first new last (record { since = here.searching.since; whole = here.searching.whole; none = learnt_no_final here.searching.since here.means.learnt }) refused
 
       -- with what is found behind it
       pub ends_later : (q : CostAsked) (last : List BookEntry) (cheap : Cheap) (known : Priced) → given ≡ Explained known → HasFoundCost q left new last cheap → HasFoundCost q budget first last cheap
       ends_later q last cheap known same found =
           let here = first_asked (Explained known) same in
-          found_later q budget left first new last here.searching.since cheap here.searching.whole here.searching.unmarked (learnt_no_final here.searching.since here.means.learnt) here.searching.paid here.searching.fresh found
+          found_later q budget left first new last cheap here.searching (learnt_no_final here.searching.since here.means.learnt) found
 
       pub known_counted : (known : Priced) → given ≡ Explained known → 0 < known.cost → 0 < scale.inputs
       known_counted known same = (first_asked (Explained known) same).means.counted

@@ -1,12 +1,10 @@
 -- Parts with a scale beside them: as the scale is written, as the solver searches, and behind marks.
-use Rattle.std.proofs.Common.{◌≡◌, ◌∙◌, ℕ, ◌+◌, ◌*◌, ◌≤◌, List, [], ◌++◌, map, refl, sym, ap, subst, arith, append-nil}
+use Rattle.std.proofs.Common.{◌≡◌, ◌∙◌, ℕ, ◌+◌, ◌*◌, ◌≤◌, List, [], ◌++◌, map, refl, sym, ap, subst, append-nil}
 use Rattle.event_costs.specs.declared.TheConstants.{MOST_COST}
 use Rattle.card_counter.specs.CounterState.{CounterState}
-use Rattle.least_faults.proofs.Climbing.{searching_further, searching_none}
-use Rattle.least_faults.proofs.Freshness.{fresh_searched}
+use Rattle.sat_solve.proofs.Leaving.{searching_further, searching_none, searching_searched}
 use Rattle.least_faults.proofs.Ranking.{still_ranked}
-use Rattle.least_faults.specs.Asking.{IsSearching}
-use Rattle.least_faults.specs.Growing.{AddsAxioms}
+use Rattle.sat_solve.specs.Leaving.{AddsAxioms}
 use Rattle.least_faults.specs.Parts.{AreParts, BelongTo}
 use Rattle.least_faults.specs.declared.parts.Parts.{Parts}
 use Rattle.des_net.specs.Network.{Net}
@@ -26,7 +24,7 @@ use Rattle.weight_counter.specs.declared.weighted.Weighted.{Weighted}
 use Rattle.cost_least.specs.Searching.{GoesOnWeighed}
 use Rattle.cost_least.specs.Weighed.{AreWeightedInputs, AreWeighedParts, AreWeighed, KeepsCode}
 use Rattle.proof_ledger.proofs.AxiomLists.{axioms_added}
-use Rattle.sat_solve.proofs.Entries.{derived_unmarked, same_axioms}
+use Rattle.sat_solve.proofs.Entries.{same_axioms}
 
 -- ---- as it is written
 
@@ -69,16 +67,6 @@ weighed_after may gives cost parts scale solver before after mid new weighed sea
   ranked = still_ranked may gives parts.solver.order solver.order same_ranks weighed.ranked;
 }
 
--- what a search puts has no marks, and as many learnt entries as were paid for, each of them fresh
-pub searching_of : (mid new : List BookEntry) (before after : ℕ) → IsSearched mid new before after → HasAxiomVars mid → IsSearching mid new before after
-searching_of mid new before after searched known = record {
-  since = searched.since;
-  whole = searched.whole;
-  unmarked = λ number. derived_unmarked number searched.since searched.derived;
-  paid = omega (arith, searched.number, searched.paid);
-  fresh = fresh_searched mid new before after searched known;
-}
-
 -- ---- what stays
 
 pub keeps_same : {R : Type 0} (parts : Parts R) → KeepsCode parts parts
@@ -115,5 +103,5 @@ pub goes_by_search : {R : Type 0} (may : R → ℕ → Type 0) (gives : R → �
 goes_by_search may gives parts scale solver before after mid new known searched all same = record {
   still = λ cost weighed. weighed_after may gives cost parts scale solver before after mid new weighed searched all same.vars same.order;
   kept = record { step = refl; code = refl; counter = refl; rank = same.order.rank };
-  searching = searching_of mid new before after searched known;
+  searching = searching_searched mid new before after searched known;
 }

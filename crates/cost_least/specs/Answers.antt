@@ -1,13 +1,13 @@
 -- What is found of the least total of an explanation, and what each answer means.
-use Rattle.std.specs.Prelude.{◌≡◌, ℕ, suc, ◌+◌, ◌-◌, ◌*◌, ◌<◌, ◌≤◌, ⊤, false, List, [], ◌∷◌, ◌++◌, Option, Some, None, IfSome, IfNone, Contains, count_by, min}
+use Rattle.std.specs.Prelude.{◌≡◌, ℕ, suc, ◌+◌, ◌-◌, ◌*◌, ◌<◌, ◌≤◌, ⊤, false, List, [], ◌∷◌, ◌++◌, Option, Some, None, IfSome, IfNone, count_by, min}
 use Rattle.std.specs.List.{list_any}
 use Rattle.des_net.specs.Network.{Net}
 use Rattle.event_costs.specs.declared.TheConstants.{MOST_COST}
-use Rattle.least_faults.specs.Answers.{HaveLearntFresh}
-use Rattle.least_faults.specs.Evidence.{is_final, HasFinal, HasLastFinal}
+use Rattle.sat_solve.specs.Leaving.{HasFinal, HasLastFinal, LeavesOpen, LeavesClosed}
+use Rattle.least_faults.specs.Evidence.{is_final}
 use Rattle.log_encode.specs.CodedLog.{CodedLog}
 use Rattle.log_order.specs.Log.{Log}
-use Rattle.proof_ledger.specs.Book.{BookEntry, final, mark, axioms_of, clauses_of, is_mark}
+use Rattle.proof_ledger.specs.Book.{BookEntry, axioms_of, clauses_of}
 use Rattle.proof_ledger.specs.Fresh.{is_learnt}
 use Rattle.prop_core.specs.Clauses.{Clause, NegatesOnly}
 use Rattle.prop_core.specs.Trail.{Clashes}
@@ -62,10 +62,6 @@ pub record NegatesCost (q : CostAsked) (axioms : List Clause) (clause : Clause) 
   pub assumed : List Lit
   pub told : PoseCostQuestion q bound axioms assumed
   pub negates : NegatesOnly assumed clause
-
--- this holds for each final entry
-abbrev pub FinalsNegateCosts : CostAsked → List Clause → List BookEntry → Type 0
-FinalsNegateCosts q axioms since = (clause : Clause) (hints : List ℕ) → Contains since (final clause hints) → NegatesCost q axioms clause
 
 -- ---- the answers, with what the entries since the question was opened show, over these axioms
 
@@ -148,24 +144,12 @@ HasConflictOf q book (Undecided lo best) = HasConflictAt q book lo best
 
 -- The question was opened by a mark 0 and closed by a mark 1, and the entries between show what was found. At most as many clauses as the budget says were learnt, each of them fresh, and each final one has no literals but negations of what is assumed for some total, or without one, and there is at most one for each total up to 1,000.
 pub record IsCostAnswered (q : CostAsked) (budget : ℕ) (old new : List BookEntry) (answer : Cheap) : Type 0 where
-  pub since : List BookEntry
-  pub whole : new ≡ old ++ mark 0 ∷ since ++ mark 1 ∷ []
-  pub unmarked : (number : ℕ) → count_by (is_mark number) since ≡ 0
-  pub within : count_by is_learnt since ≤ budget
-  pub fresh : HaveLearntFresh (old ++ mark 0 ∷ []) since
-  pub finals : FinalsNegateCosts q (axioms_of new) since
-  pub finals_few : count_by is_final since ≤ 1 + MOST_COST
-  pub found : IsCheapFound q (axioms_of new) since budget answer
+  pub left : LeavesClosed (NegatesCost q (axioms_of new)) (1 + MOST_COST) budget old new
+  pub found : IsCheapFound q (axioms_of new) left.since budget answer
   pub conflict : HasConflictOf q new answer
 
 -- ---- without an answer
 
 -- The question was opened by a mark 0 and has no answer: no mark stands behind that one. At most as many clauses as the budget says were learnt, each of them fresh. Each final one negates what is assumed for some total, or without one, and there is at most one for each total.
-pub record IsCostLeftOpen (q : CostAsked) (budget : ℕ) (old new : List BookEntry) : Type 0 where
-  pub since : List BookEntry
-  pub whole : new ≡ old ++ mark 0 ∷ since
-  pub unmarked : (number : ℕ) → count_by (is_mark number) since ≡ 0
-  pub within : count_by is_learnt since ≤ budget
-  pub fresh : HaveLearntFresh (old ++ mark 0 ∷ []) since
-  pub finals : FinalsNegateCosts q (axioms_of new) since
-  pub finals_few : count_by is_final since ≤ 1 + MOST_COST
+abbrev pub IsCostLeftOpen : CostAsked → (budget : ℕ) → (old new : List BookEntry) → Type 0
+IsCostLeftOpen q budget old new = LeavesOpen (NegatesCost q (axioms_of new)) (1 + MOST_COST) budget old new

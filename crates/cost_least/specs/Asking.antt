@@ -1,14 +1,14 @@
 -- One question of costs: what it leaves in the book, and what its answer means.
 use Rattle.std.specs.Prelude.{◌≡◌, ℕ, suc, ◌+◌, ◌<◌, List, [], ◌∷◌, ◌++◌, Option, Some, None, ⊤}
-use Rattle.least_faults.specs.Asking.{IsSearching}
+use Rattle.sat_solve.specs.Leaving.{IsSearching}
 use Rattle.log_encode.specs.CodedLog.{CodedLog}
-use Rattle.proof_ledger.specs.Book.{BookEntry, final, clauses_of}
-use Rattle.prop_core.specs.Clauses.{Clause, NegatesOnly}
+use Rattle.proof_ledger.specs.Book.{BookEntry, clauses_of}
+use Rattle.prop_core.specs.Clauses.{NegatesOnly}
 use Rattle.prop_core.specs.Trail.{Clashes}
 use Rattle.prop_core.specs.declared.lit.Lit.{Lit}
 use Rattle.replay.specs.Explanation.{IsAbsent}
 use Rattle.run_decode.specs.Faithful.{IsWithin}
-use Rattle.sat_solve.specs.Searching.{AreLearnt}
+use Rattle.sat_solve.specs.Searching.{AreLearnt, IsClosedByFinal}
 use Rattle.weight_counter.specs.declared.scale.Scale.{Scale}
 use Rattle.cost_least.specs.Answers.{CostAsked, IsPriced, Needs}
 use Rattle.cost_least.specs.Weighed.{assumed_at}
@@ -20,15 +20,6 @@ use Rattle.cost_least.specs.declared.asking.CostAnswer.TheVariants.{Explained, R
 abbrev pub RulesOut : CostAsked → Option ℕ → Type 0
 RulesOut q None = IsAbsent q.net q.log q.steps
 RulesOut q (Some b) = Needs q (suc b)
-
--- learnt entries, and then a final one of negated assumptions
-pub record EndsByFinal (assumed : List Lit) (since : List BookEntry) : Type 0 where
-  pub before : List BookEntry
-  pub clause : Clause
-  pub hints : List ℕ
-  pub whole : since ≡ before ++ final clause hints ∷ []
-  pub learnt : AreLearnt before
-  pub negates : NegatesOnly assumed clause
 
 -- where a run is given, it is one that explains, with its total
 abbrev pub IsGiven : CostAsked → CostAnswer → Type 0
@@ -43,10 +34,11 @@ pub record IsFoundWithin (q : CostAsked) (scale : Scale) (bound : Option ℕ) (s
   pub counted : 0 < priced.cost → 0 < scale.inputs
   pub learnt : AreLearnt since
 
--- what was asked for is ruled out, by a final entry
+-- what was asked for is ruled out, by a final entry of negated assumptions behind learnt ones
 pub record IsRuledOut (q : CostAsked) (bound : Option ℕ) (assumed : List Lit) (since : List BookEntry) : Type 0 where
   pub out : RulesOut q bound
-  pub ends : EndsByFinal assumed since
+  pub ends : IsClosedByFinal since
+  pub negates : NegatesOnly assumed ends.clause
 
 -- nothing is left at a further conflict
 pub record HasNothingLeft (assumed : List Lit) (since book : List BookEntry) (budget : ℕ) : Type 0 where

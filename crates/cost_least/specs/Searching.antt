@@ -1,16 +1,14 @@
 -- A search by halving: what it has found when it asks, and what it needs.
-use Rattle.std.specs.Prelude.{◌≡◌, ◌⊎◌, ℕ, suc, ◌+◌, ◌<◌, ◌≤◌, Bool, List, [], ◌∷◌, ◌++◌, Option, Some, Contains, count_by}
+use Rattle.std.specs.Prelude.{◌≡◌, ◌⊎◌, ℕ, suc, ◌+◌, ◌<◌, ◌≤◌, Bool, List, [], ◌∷◌, ◌++◌, Option, Some, count_by}
 use Rattle.des_net.specs.Network.{Net}
 use Rattle.event_costs.specs.StoredCosts.{GivesCosts}
 use Rattle.event_costs.specs.declared.TheConstants.{MOST_COST}
-use Rattle.least_faults.specs.Answers.{HaveLearntFresh}
-use Rattle.least_faults.specs.Asking.{IsSearching}
-use Rattle.least_faults.specs.Evidence.{HasLastFinal, is_final}
+use Rattle.sat_solve.specs.Leaving.{IsSearching, HasLastFinal, EachFinal, PutsFinals, LeavesBare}
+use Rattle.least_faults.specs.Evidence.{is_final}
 use Rattle.least_faults.specs.declared.parts.Parts.{Parts}
 use Rattle.log_encode.specs.CodedLog.{CodedLog}
 use Rattle.log_order.specs.Log.{Log}
-use Rattle.proof_ledger.specs.Book.{BookEntry, final, mark, is_mark, axioms_of}
-use Rattle.proof_ledger.specs.Fresh.{is_learnt}
+use Rattle.proof_ledger.specs.Book.{BookEntry, mark, axioms_of}
 use Rattle.prop_core.specs.Clauses.{Clause, NegatesOnly, value_in}
 use Rattle.weight_counter.specs.Weighing.{weight_true}
 use Rattle.weight_counter.specs.declared.scale.Scale.{Scale}
@@ -20,7 +18,7 @@ use Rattle.run_decode.specs.Decided.{Entails}
 use Rattle.sat_solve.specs.Searching.{IsAnswer, IsPutFor}
 use Rattle.sat_solve.specs.declared.answer.Answer.{Answer}
 use Rattle.cost_least.specs.Asking.{RulesOut}
-use Rattle.cost_least.specs.Answers.{CostAsked, FinalsNegateCosts, PoseCostQuestion, IsPriced, Needs, IsCheapFound, HasConflictOf, IsCostAnswered, IsCostLeftOpen}
+use Rattle.cost_least.specs.Answers.{CostAsked, PoseCostQuestion, IsPriced, Needs, IsCheapFound, HasConflictOf, IsCostAnswered, IsCostLeftOpen, NegatesCost}
 use Rattle.cost_least.specs.Weighed.{IsOneElsewhere, AreWeighed, AreWeighedParts, AreWeightedInputs, KeepsCode, assumed_at}
 use Rattle.answers.specs.declared.cheap.Cheap.{Cheap}
 use Rattle.answers.specs.declared.cheap.Priced.{Priced}
@@ -61,14 +59,14 @@ pub record IsSolvedUnder (assumed : List Lit) (values : List Bool) (old new : Li
 abbrev pub IsTotalOf : {R : Type 0} → (ℕ → ℕ) → Parts R → ℕ → Type 0
 IsTotalOf cost parts total = (inputs : List Weighted) → AreWeightedInputs parts.step parts.code.coded cost inputs → total ≡ weight_true (value_in parts.solver.assignment) inputs
 
--- each final entry refutes a total below lo
-abbrev pub FinalsAreBelowTotal : CodedLog → Scale → ℕ → List BookEntry → Type 0
-FinalsAreBelowTotal code scale lo since = (clause : Clause) (hints : List ℕ) → Contains since (final clause hints) → (j : ℕ) × (j < lo) × NegatesOnly (assumed_at code scale (Some j)) clause
+-- the clause negates what is assumed for some total below lo
+abbrev pub NegatesTotalBelow : CodedLog → Scale → ℕ → Clause → Type 0
+NegatesTotalBelow code scale lo clause = (j : ℕ) × (j < lo) × NegatesOnly (assumed_at code scale (Some j)) clause
 
 -- What the search has come to: totals below lo are refuted, each by one final entry at most, the last of them by the last one, and a run of this total is known.
 pub record HasHalved (q : CostAsked) (code : CodedLog) (scale : Scale) (old new : List BookEntry) (budget_old budget_new lo : ℕ) (best : Priced) : Type 0 where
   pub searching : IsSearching old new budget_old budget_new
-  pub finals : FinalsAreBelowTotal code scale lo searching.since
+  pub finals : EachFinal (NegatesTotalBelow code scale lo) searching.since
   pub few : count_by is_final searching.since ≤ lo
   pub last : (b : ℕ) → lo ≡ suc b → HasLastFinal searching.since (assumed_at code scale (Some b))
   pub needs : Needs q lo
@@ -78,14 +76,8 @@ pub record HasHalved (q : CostAsked) (code : CodedLog) (scale : Scale) (old new 
 
 -- The entries that were put show what was found, and no more clauses were learnt than the budget says, each of them fresh. Each final entry negates what is assumed for some total, or without one, and there is at most one for each total.
 pub record HasFoundCost (q : CostAsked) (budget : ℕ) (old new : List BookEntry) (answer : Cheap) : Type 0 where
-  pub since : List BookEntry
-  pub whole : new ≡ old ++ since
-  pub unmarked : (number : ℕ) → count_by (is_mark number) since ≡ 0
-  pub within : count_by is_learnt since ≤ budget
-  pub fresh : HaveLearntFresh old since
-  pub finals : FinalsNegateCosts q (axioms_of new) since
-  pub finals_few : count_by is_final since ≤ 1 + MOST_COST
-  pub found : IsCheapFound q (axioms_of new) since budget answer
+  pub put : LeavesBare (NegatesCost q (axioms_of new)) (1 + MOST_COST) budget old new
+  pub found : IsCheapFound q (axioms_of new) put.since budget answer
   pub conflict : HasConflictOf q new answer
 
 -- By some costs that the stored closure answers, which are what it answers on each fault event, the answer means this. The axioms of the book are those of the question and of a scale that weighs its faults with these costs.
@@ -106,11 +98,8 @@ CostsAreRuledOut = (q : CostAsked) (bound : Option ℕ) (axioms : List Clause) (
 -- ---- without an answer
 
 -- A search ended without one: each final entry that it put negates what is assumed for some total, and there is at most one for each.
-pub record HasRefusedCosts (q : CostAsked) (old new : List BookEntry) : Type 0 where
-  pub since : List BookEntry
-  pub whole : new ≡ old ++ since
-  pub finals : FinalsNegateCosts q (axioms_of new) since
-  pub few : count_by is_final since ≤ 1 + MOST_COST
+abbrev pub HasRefusedCosts : CostAsked → List BookEntry → List BookEntry → Type 0
+HasRefusedCosts q old new = PutsFinals (NegatesCost q (axioms_of new)) (1 + MOST_COST) old new
 
 -- By some costs that the stored closure answers the question is left open, behind the clauses of a scale that weighs its faults with these costs.
 pub record IsLeftWeighed {R C : Type 0} (answers : C → ℕ → ℕ → Type 0) (stored : C) (net : Net) (log : Log) (parts : Parts R) (budget : ℕ) (old new : List BookEntry) : Type 0 where

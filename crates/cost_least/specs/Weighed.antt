@@ -8,12 +8,11 @@ use Rattle.event_costs.specs.declared.TheConstants.{MOST_COST}
 use Rattle.least_faults.specs.Parts.{AreParts}
 use Rattle.least_faults.specs.declared.parts.Parts.{Parts}
 use Rattle.question_clauses.specs.LogClauses.{guard_literals}
-use Rattle.log_encode.specs.CodedLog.{CodedLog, read_meanings, without_names}
+use Rattle.log_encode.specs.CodedLog.{CodedLog, read_meanings, without_names, log_guards}
 use Rattle.log_order.specs.Log.{Log, IsValidLog}
 use Rattle.prop_core.specs.VariableNames.{ReadsAs}
 use Rattle.proof_ledger.specs.Book.{BookEntry, axioms_of, clauses_of}
 use Rattle.prop_core.specs.Clauses.{Clause}
-use Rattle.prop_core.specs.Listings.{literal_by}
 use Rattle.prop_core.specs.declared.grid.Grid.{Grid}
 use Rattle.prop_core.specs.declared.lit.Lit.{Lit}
 use Rattle.run_decode.specs.RunNaming.{AreFalseLiterals}
@@ -94,10 +93,6 @@ pub record KeepsCode {R : Type 0} (old new : Parts R) : Type 0 where
   pub rank : new.solver.order.rank ≡ old.solver.order.rank
 
 -- ---- what is assumed
-
--- the guards of the log, as literals in their order
-abbrev pub log_guards : CodedLog → List Lit
-log_guards code = map (literal_by (read_meanings code)) (guard_literals code.net code.log)
 
 -- the guards, and the literal that the total is at most the bound
 abbrev pub assumed_at : CodedLog → Scale → Option ℕ → List Lit

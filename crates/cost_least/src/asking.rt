@@ -2,7 +2,7 @@
 ghost use Rattle.std.specs.Prelude.{◌≡◌, ℕ, ◌≤◌, ◌++◌, IfOk, OnErr, OnOk, IfSome};
 ghost use Rattle.des_base.specs.declared.TheConstants.{MOST_STEPS};
 ghost use Rattle.event_costs.specs.StoredCosts.{IsCost, GivesCosts};
-ghost use Rattle.least_faults.specs.Asking.{PutsNoFinal};
+ghost use Rattle.sat_solve.specs.Leaving.{PutsNoFinal};
 ghost use Rattle.least_faults.specs.Parts.{BelongTo};
 ghost use Rattle.prop_core.specs.Clauses.{value_in};
 ghost use Rattle.run_decode.specs.Decoding.{IsTrueRun};
@@ -13,7 +13,7 @@ ghost use Rattle.cost_least.specs.Pricing.{cost_limit};
 ghost use Rattle.cost_least.specs.Searching.{MayBound, GoesOnWeighed, IsSolvedUnder, asked_of, AreAsked, IsTotalOf};
 ghost use Rattle.cost_least.specs.Weighed.{AreWeighed, assumed_at};
 
-use crate::question::{CostQuestion, has_guards};
+use crate::question::CostQuestion;
 use crate::run_costs::run_cost;
 use answers::Priced;
 use des_base::Memory;
@@ -57,8 +57,8 @@ pub fn ask<C: Fn(u32) -> u32, R: Fn(u32) -> u64>(
     question.net.is_built();
     question.log.is_whole();
     let answer = solve(question, within, parts, book, budget)?;
-    has_guards(&parts.code);
-    book.entries();
+    parts.code.has_guards();
+    book.is_valid();
     match answer {
         Answer::Unsat(_) => Ok(CostAnswer::Refuted),
         Answer::Spent => Ok(CostAnswer::Spent),
@@ -83,7 +83,7 @@ fn solve<R: Fn(u32) -> u64>(
 {
     question.net.is_built();
     question.log.is_whole();
-    has_guards(&parts.code);
+    parts.code.has_guards();
     let assumed = assumptions(question, within, &parts.code)?;
     parts.solver.solve(book, assumed.as_slice(), budget)
 }

@@ -1,5 +1,5 @@
 // The search for the least total, by halving: each bound is an assumption of an incremental solver.
-ghost use Rattle.std.specs.Prelude.{◌≡◌, ℕ, ◌<◌, ◌≤◌, min, ◌+◌, [], None, IfOk, OnErr};
+ghost use Rattle.std.specs.Prelude.{◌≡◌, ℕ, ◌<◌, ◌≤◌, min, ◌+◌, None, IfOk, OnErr};
 ghost use Rattle.des_base.specs.declared.TheConstants.{MOST_STEPS};
 ghost use Rattle.event_costs.specs.StoredCosts.{IsCost, GivesCosts};
 ghost use Rattle.event_costs.specs.declared.TheConstants.{MOST_COST};
@@ -12,7 +12,7 @@ ghost use Rattle.cost_least.specs.Searching.{AreAsked, GoesOnWeighed, HasAnswere
 ghost use Rattle.cost_least.specs.Weighed.{AreWeighed, KeepsCode};
 
 use crate::asking::{CostAnswer, ask};
-use crate::question::{CostQuestion, has_guards};
+use crate::question::CostQuestion;
 use crate::weighing::weigh;
 use answers::{Cheap, Priced};
 use des_base::Memory;
@@ -81,7 +81,7 @@ fn search<C: Fn(u32) -> u32, R: Fn(u32) -> u64>(
 {
     question.net.is_built();
     question.log.is_whole();
-    has_guards(&parts.code);
+    parts.code.has_guards();
     match ask(question, costs, None, parts, book, budget)? {
         CostAnswer::Refuted => Ok(Cheap::Absent),
         CostAnswer::Spent => Ok(Cheap::Undecided { lo: 0, best: None }),
@@ -111,13 +111,13 @@ fn halve<C: Fn(u32) -> u32, R: Fn(u32) -> u64>(
 {
     question.net.is_built();
     question.log.is_whole();
-    has_guards(&parts.code);
+    parts.code.has_guards();
     let mut best = known;
     let mut lo = 0;
     while lo < ceiling(best.cost) {
         let b = middle(lo, best.cost);
         let asked = ask(question, costs, Some(b), parts, book, budget)?;
-        book.entries();
+        book.is_valid();
         match asked {
             CostAnswer::Explained(better) => best = better,
             CostAnswer::Refuted => lo = b + 1,

@@ -3,7 +3,7 @@ ghost use Rattle.std.specs.Prelude.{◌≡◌, ◌<◌, ◌≤◌, ◌+◌, ◌*
 ghost use Rattle.std.specs.List.{AllByRecursion};
 ghost use Rattle.des_base.specs.declared.TheConstants.{MOST_STEPS, VAR_LIMIT};
 ghost use Rattle.event_costs.specs.StoredCosts.{IsCost};
-ghost use Rattle.least_faults.specs.Growing.{AddsAxioms};
+ghost use Rattle.sat_solve.specs.Leaving.{AddsAxioms};
 ghost use Rattle.least_faults.specs.Parts.{AreReady, BelongTo};
 ghost use Rattle.least_faults.specs.declared.TheConstants.{MOST_SIZE};
 ghost use Rattle.cost_least.specs.Costs.{cost_size};

@@ -61,7 +61,7 @@ pub cheap_said : (net : Net) (log : Log) (n : ℕ) (answer : Cheap) → IsNetwor
 cheap_said net log n answer network drafted logged few cost budget book priced reply is = record {
   answer = answer;
   priced = priced;
-  again = cheap_reads_back (record { net = net; cost = cost; log = log; steps = n }) _ priced.answered.since budget answer network drafted logged few priced.answered.found;
+  again = cheap_reads_back (record { net = net; cost = cost; log = log; steps = n }) _ priced.answered.left.since budget answer network drafted logged few priced.answered.found;
   is = is;
 }
 

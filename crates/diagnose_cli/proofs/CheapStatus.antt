@@ -6,7 +6,7 @@ use Rattle.answers.specs.declared.cheap.Cheap.{Cheap}
 use Rattle.answers.specs.declared.cheap.Cheap.TheVariants.{Found, Absent, Dear, Undecided}
 use Rattle.des_base.specs.Outside.{Took}
 use Rattle.pricing.specs.LeastCost.{IsPricedBy}
-use Rattle.least_faults.proofs.Freshness.{fresh_closed}
+use Rattle.sat_solve.proofs.Freshness.{fresh_closed}
 use Rattle.replay.specs.Explanation.{IsAbsent}
 use Rattle.report.specs.Replies.{text_of_cheap}
 use Rattle.run_decode.specs.QuestionAxioms.{question_axioms}
@@ -48,7 +48,7 @@ module _ (o : Outcome) (q : CostAsked) (budget : ℕ) where
         lo = lo;
         best = best;
         question = holds.question;
-        spent = fresh_closed (question_axioms q.net q.log q.steps 0) answered.since o.book budget answered.whole answered.fresh answered.found.spent;
+        spent = fresh_closed (question_axioms q.net q.log q.steps 0) answered.left.since o.book budget answered.left.whole answered.left.fresh answered.found.spent;
         conflict = answered.conflict;
         above = answered.found.needs;
         known = IfSome_then best answered.found.given (λ priced h. (h.given, h.above));

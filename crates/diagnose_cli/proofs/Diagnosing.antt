@@ -21,7 +21,7 @@ use Rattle.diagnose_cli.proofs.RepliesReplay.{run_replays}
 pub answers_question : (net : Net) (log : Log) (n budget : ℕ) (book : List BookEntry) (found : Found) → IsNetwork net → IsDraft net → IsLog log → n ≤ 1000 → IsDiagnosed net log n budget book found → AnswersQuestion net log n budget book found
 answers_question net log n budget book found network whole log_whole few diagnosed = record {
   diagnosed = diagnosed;
-  replays = run_replays _ _ diagnosed.answered.since net log n budget found network whole log_whole few diagnosed.answered.found;
+  replays = run_replays _ _ diagnosed.answered.left.since net log n budget found network whole log_whole few diagnosed.answered.found;
 }
 
 -- ---- a budget that is large enough

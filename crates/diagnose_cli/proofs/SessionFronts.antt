@@ -35,14 +35,14 @@ same_setting P other net time n same same_time h = subst (λ (k : ℕ). P net k)
 
 module _ (net : Net) (n budget : ℕ) (old : Stage) (row : Row) (new : Stage) where
   pub row_known : (told : RowTold) → IsRowTold net n budget old row new told → TellsKnown net told
-  row_known (Answered found) is = let answered = is.tells.told.answered in known is.tells.told.meanings _ answered.since net old.log n budget found answered.found
+  row_known (Answered found) is = let answered = is.tells.told.answered in known is.tells.told.meanings _ answered.left.since net old.log n budget found answered.found
   row_known _ is = tt
 
   row_replays : (told : RowTold) → IsNetwork net → IsDraft net → IsLog new.log → n ≤ 1000 → IsRowTold net n budget old row new told → TellsReplaying net old.log n told
   row_replays (Answered found) network whole log_whole few told =
       let answered = told.tells.told.answered in
       let same : new.log ≡ old.log = told.log ∙ ap (after_row net n old.log) told.tells.question in
-      run_replays told.tells.told.meanings _ answered.since net old.log n budget found network whole (subst IsLog same log_whole) few answered.found
+      run_replays told.tells.told.meanings _ answered.left.since net old.log n budget found network whole (subst IsLog same log_whole) few answered.found
   row_replays _ network whole log_whole few told = tt
 
   pub carried : (told : RowTold) → IsNetwork net → IsDraft net → IsLog new.log → n ≤ 1000 → IsRowTold net n budget old row new told → IsCarriedOut net n budget old row new told

@@ -5,7 +5,7 @@ use Rattle.des_base.specs.Outside.{Took}
 use Rattle.des_net.specs.Network.{Net}
 use Rattle.answers.specs.declared.found.Found.{Found}
 use Rattle.answers.specs.declared.found.Found.TheVariants.{Explained, Absent, Many, Undecided}
-use Rattle.least_faults.proofs.Freshness.{fresh_closed}
+use Rattle.sat_solve.proofs.Freshness.{fresh_closed}
 use Rattle.log_csv.specs.LogText.{log_of}
 use Rattle.log_order.specs.Log.{Log}
 use Rattle.model_text.specs.ModelFaults.{network_of}
@@ -91,7 +91,7 @@ module _ (o : Outcome) (net : Net) (alarms : Log) (steps budget : ℕ) where
       record {
         lo = lo;
         best = best;
-        spent = fresh_closed (question_axioms net alarms steps 0) answered.since o.book budget answered.whole answered.fresh answered.found.spent;
+        spent = fresh_closed (question_axioms net alarms steps 0) answered.left.since o.book budget answered.left.whole answered.left.fresh answered.found.spent;
         meanings = holds.diagnosed.meanings;
         few = answered.few;
         conflict = answered.conflict;

@@ -166,8 +166,7 @@ fn tell_rows<'a, R: Fn(u32) -> u64, S: Sink>(
     ensures speaks { Speaks (MaySay plan.now.net plan.now.limits.steps plan.now.limits.budget plan.now.script book.new.entries) (book.new.entries ≡ []) (S.taken out.old) (S.taken out.new) (Rose (S.faults out.old) (S.faults out.new)) (status_of_session result) }
     ensures failures { RisesExactlyIf (IsErrOf result Broken.Put) (S.failures out.old) (S.failures out.new) }
 {
-    // Its reader tells that the book asks about the empty log.
-    let _book = session.book();
+    session.is_sound();
     let mut teller = RowTeller { plan, session };
     let said = put_each(alloc, &mut teller, plan.script.rows(), out);
     let RowTeller { plan: _, session } = teller;

@@ -1,5 +1,5 @@
 // The files of a command: each is loaded, held against its limit and read.
-ghost use Rattle.std.specs.Prelude.{◌≡◌, ◌≢◌, ℕ, ◌^◌, ◌<◌, ◌≤◌, List, length, All, IfOk, IfErr, OnOk};
+ghost use Rattle.std.specs.Prelude.{◌≡◌, ◌≢◌, ℕ, ◌^◌, ◌<◌, ◌≤◌, List, length, All, IfOk, IfErr};
 ghost use Rattle.des_base.specs.CommandWords.{word_at};
 ghost use Rattle.event_costs.specs.CostText.{IsTableOf};
 ghost use Rattle.model_text.specs.ModelFaults.{network_of};

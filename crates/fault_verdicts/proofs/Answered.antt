@@ -1,6 +1,5 @@
 -- What a question about an event comes to, by the answer of the solver; and what it is between its marks.
-use Rattle.std.proofs.Common.{◌≡◌, ◌↔◌, ◌∙◌, inl, inr, ℕ, ◌<◌, ◌≤◌, Bool, true, List, [], ◌∷◌, ◌++◌, length, map, Result, Ok, Err, IfOk, refl, sym, ap, subst, arith, Contains, IsTrue, count_by, append_assoc}
-use Rattle.std.proofs.lemmas.List.{append_cancel_left}
+use Rattle.std.proofs.Common.{◌≡◌, ◌↔◌, ◌∙◌, inl, inr, ℕ, ◌<◌, ◌≤◌, Bool, true, List, [], ◌∷◌, ◌++◌, length, map, Result, Ok, Err, IfOk, refl, sym, ap, subst, arith, Contains, IsTrue, count_by}
 use Rattle.std.proofs.lemmas.List.Elements.{Contains-append_right as append_right}
 use Rattle.card_counter.specs.Counting.{true_count}
 use Rattle.des_base.proofs.Elements.{all_from as all_of, all_split}
@@ -10,15 +9,14 @@ use Rattle.fault_verdicts.proofs.Events.{few_true, run_has, true_run_of}
 use Rattle.fault_verdicts.proofs.Going.{belong_on, ready_after_search}
 use Rattle.fault_verdicts.proofs.Judged.{asked_beside, open_found, possible_found, refuted_found}
 use Rattle.fault_verdicts.specs.Asked.{IsPosedOf, some_step_clauses}
-use Rattle.fault_verdicts.specs.Judged.{IsBestRun, IsJudged, IsVerdict, FinalsNegateAsked, IsVerdictOpenAtMost, IsQuestionAbout}
+use Rattle.fault_verdicts.specs.Judged.{IsBestRun, IsJudged, IsVerdict, IsVerdictOpenAtMost, IsQuestionAbout, NegatesAsked}
 use Rattle.fault_verdicts.specs.Judging.{AreAssumedOf, IsSolvedAbout, IsSaidBy, IsVerdictShown, KeepsStepsAndLog, bound_for, verdict_of, EndsWithoutVerdict}
 use Rattle.answers.specs.declared.verdict.Verdict.{Verdict}
 use Rattle.answers.specs.declared.verdict.Verdict.TheVariants.{Possible, Open}
-use Rattle.least_faults.proofs.Asked.{axioms_true, searching_both}
+use Rattle.least_faults.proofs.Asked.{axioms_true}
 use Rattle.least_faults.proofs.Entailing.{final_entailed}
-use Rattle.least_faults.specs.Evidence.{is_final}
-use Rattle.least_faults.specs.Asking.{IsSearching, PutsNoFinal}
-use Rattle.least_faults.specs.Growing.{AddsAxioms}
+use Rattle.sat_solve.proofs.Leaving.{searching_both, leaves_searched, leaves_both, leaves_open, leaves_closed}
+use Rattle.sat_solve.specs.Leaving.{IsSearching, AddsAxioms}
 use Rattle.least_faults.specs.Parts.{BelongTo}
 use Rattle.least_faults.specs.declared.parts.Parts.{Parts}
 use Rattle.question_clauses.proofs.Lists.{all_at}
@@ -26,7 +24,7 @@ use Rattle.log_order.specs.Log.{Log, IsValidLog}
 use Rattle.log_order.specs.Order.{least_order}
 use Rattle.proof_ledger.specs.Book.{BookEntry, axiomatic, final, mark, axioms_of, clauses_of, IsValidBook}
 use Rattle.proof_ledger.specs.Fresh.{is_learnt, AreFresh}
-use Rattle.prop_core.specs.Clauses.{clause_true, literal_true, value_in, AllClausesTrue, AllLiteralsTrue}
+use Rattle.prop_core.specs.Clauses.{clause_true, literal_true, value_in, AllClausesTrue, AllLiteralsTrue, NegatesOnly}
 use Rattle.prop_core.specs.declared.lit.Lit.{Lit}
 use Rattle.replay.specs.Explanation.{Explains, faults_of}
 use Rattle.replay.specs.Matching.{IsWellMatched, order_of}
@@ -41,7 +39,7 @@ use Rattle.sat_solve.specs.declared.answer.Answer.TheVariants.{Sat, Unsat, Spent
 use Rattle.step_encode.specs.Coded.{CodedSteps, code_grid}
 use Rattle.step_encode.specs.FaultInputs.{fault_literals}
 use Rattle.proof_ledger.proofs.AxiomLists.{marked_axioms, marked_clauses}
-use Rattle.sat_solve.proofs.Entries.{AreFinalsFor, last_final_for, no_final_in, none_counted, none_final, put_finals, put_since}
+use Rattle.sat_solve.proofs.Entries.{AreFinalsFor, last_final_for, none_final, put_finals, put_since}
 
 -- ---- what is true of a model
 
@@ -119,22 +117,16 @@ module _ {R : Type 0} (may : R → ℕ → Type 0) (gives : R → ℕ → ℕ �
   pub shown_unanswered : EndsWithoutVerdict net log parts.step.steps k e first old new
   shown_unanswered = record { since = is.searching.since; whole = is.searching.whole; finals = λ clause hints in'. (asked_now, is.finals clause hints in'); few = is.few }
 
-  with_verdict : (verdict : Verdict) → IsVerdict (axioms_of new) (clauses_of new) old is.searching.since net log parts.step.steps k e before first verdict → IsVerdictShown net log parts.step.steps k e first before after old new verdict
-  with_verdict verdict found = record {
-    searching = is.searching;
-    asked = asked_now;
-    finals = is.finals;
-    few = is.few;
-    found = found;
-  }
+  with_verdict : (verdict : Verdict) → IsVerdict (axioms_of new) (clauses_of new) old is.searching.since net log parts.step.steps k e before first verdict → IsVerdictShown net log parts.step.steps k e first before old new verdict
+  with_verdict verdict found = record { asked = asked_now; put = leaves_searched (NegatesOnly is.assumed) 1 before after old new is.searching is.finals is.few; found = found }
 
-  pub shown_refuted : (number : ℕ) → answer ≡ Unsat number → IsValidBook new → IsVerdictShown net log parts.step.steps k e first before after old new (verdict_of there)
+  pub shown_refuted : (number : ℕ) → answer ≡ Unsat number → IsValidBook new → IsVerdictShown net log parts.step.steps k e first before old new (verdict_of there)
   shown_refuted number unsat book =
       let last = subst (IsSaidBy parts.solver.assignment is.searching.since new is.assumed after) unsat is.says in
       let in' = subst (λ xs. Contains xs (final last.clause last.hints)) (sym is.searching.whole) (append_right old is.searching.since (final last.clause last.hints) last.there) in
       with_verdict (verdict_of there) (refuted_found (axioms_of new) (clauses_of new) old is.searching.since net log parts.step.steps k e before first there is.assumed best_now last (final_entailed new last.clause last.hints book in') has)
 
-  pub shown_open : answer ≡ Spent → IsVerdictShown net log parts.step.steps k e first before after old new Open
+  pub shown_open : answer ≡ Spent → IsVerdictShown net log parts.step.steps k e first before old new Open
   shown_open none =
       let spent = subst (IsSaidBy parts.solver.assignment is.searching.since new is.assumed after) none is.says in
       let paid = is.searching.paid in
@@ -158,7 +150,7 @@ module _ {R : Type 0} (may : R → ℕ → Type 0) (gives : R → ℕ → ℕ �
     pub shown_possible : (other : List RunStep) → IsWellMatched net log other → Explains net log parts.step.steps (word_of other) (order_of log other) →
         ((false_lits : List Lit) → AreFalseLiterals parts.code.coded false_lits → faults_of net (word_of other) (order_of log other) ≡ true_count (value_in values) (fault_literals net (code_grid parts.step) ++ false_lits)) →
         other ≡ decoded_run net log (truth_of parts.step parts.code.coded (value_in values)) (least_order (length log.alarms) log.pairs) parts.step.steps →
-        IsVerdictShown net log parts.step.steps k e first before after old new (Possible other)
+        IsVerdictShown net log parts.step.steps k e first before old new (Possible other)
     shown_possible other matched explains faults run =
         let value = value_in values in
         let grid = code_grid parts.step in
@@ -172,52 +164,29 @@ module _ {R : Type 0} (may : R → ℕ → Type 0) (gives : R → ℕ → ℕ �
 
 -- ---- between the marks
 
-pub judged : (net : Net) (log : Log) (n k e budget left : ℕ) (first : List RunStep) (old opened asked new : List BookEntry) (verdict : Verdict) → opened ≡ old ++ mark 0 ∷ [] → new ≡ asked ++ mark 1 ∷ [] → IsVerdictShown net log n k e first budget left opened asked verdict →
+pub judged : (net : Net) (log : Log) (n k e budget : ℕ) (first : List RunStep) (old opened asked new : List BookEntry) (verdict : Verdict) → opened ≡ old ++ mark 0 ∷ [] → new ≡ asked ++ mark 1 ∷ [] → IsVerdictShown net log n k e first budget opened asked verdict →
     IsJudged net log n k e budget first old new verdict
-judged net log n k e budget left first old opened asked new verdict begins closes is = record {
-  since = is.searching.since;
-  whole = closes ∙ ap (λ b. b ++ mark 1 ∷ []) (is.searching.whole ∙ ap (λ b. b ++ is.searching.since) begins ∙ append_assoc old (mark 0 ∷ []) is.searching.since);
-  unmarked = is.searching.unmarked;
-  within = (let paid = is.searching.paid in omega (arith, paid));
-  fresh = subst (λ b. AreFresh b is.searching.since (count_by is_learnt is.searching.since)) begins is.searching.fresh;
+judged net log n k e budget first old opened asked new verdict begins closes is = record {
   asked = record {
     question = is.asked.question;
     asked = is.asked.asked;
     assumed = is.asked.assumed;
     posed = subst (λ axioms. IsPosedOf axioms is.asked.assumed net log n k e is.asked.question) (sym (ap axioms_of closes ∙ marked_axioms asked 1)) is.asked.posed;
   };
-  finals = is.finals;
-  few = is.few;
-  found = subst (λ axioms. IsVerdict axioms (clauses_of new) (old ++ mark 0 ∷ []) is.searching.since net log n k e budget first verdict) (sym (ap axioms_of closes ∙ marked_axioms asked 1))
-      (subst (λ clauses. IsVerdict (axioms_of asked) clauses (old ++ mark 0 ∷ []) is.searching.since net log n k e budget first verdict) (sym (ap clauses_of closes ∙ marked_clauses asked 1))
-      (subst (λ b. IsVerdict (axioms_of asked) (clauses_of asked) b is.searching.since net log n k e budget first verdict) begins is.found));
+  left = leaves_closed (NegatesOnly is.asked.assumed) (NegatesOnly is.asked.assumed) 1 budget old opened asked new begins closes (λ clause negates. negates) is.put;
+  found = subst (λ axioms. IsVerdict axioms (clauses_of new) (old ++ mark 0 ∷ []) is.put.since net log n k e budget first verdict) (sym (ap axioms_of closes ∙ marked_axioms asked 1))
+      (subst (λ clauses. IsVerdict (axioms_of asked) clauses (old ++ mark 0 ∷ []) is.put.since net log n k e budget first verdict) (sym (ap clauses_of closes ∙ marked_clauses asked 1))
+      (subst (λ b. IsVerdict (axioms_of asked) (clauses_of asked) b is.put.since net log n k e budget first verdict) begins is.found));
 }
 
 -- ---- without a verdict
 
-pub unanswered_none : (net : Net) (log : Log) (n k e : ℕ) (first : List RunStep) (old new : List BookEntry) → PutsNoFinal old new → EndsWithoutVerdict net log n k e first old new
-unanswered_none net log n k e first old new quit = record {
-  since = quit.since;
-  whole = quit.whole;
-  finals = λ clause hints in'. absurd (no_final_in quit.since clause hints quit.none in');
-  few = (let none = none_counted quit.since quit.none in omega (arith, none));
-}
-
 -- where there is one that can't be closed
-pub unanswered_shown : (net : Net) (log : Log) (n k e left after : ℕ) (first : List RunStep) (old new : List BookEntry) (verdict : Verdict) → IsVerdictShown net log n k e first left after old new verdict → EndsWithoutVerdict net log n k e first old new
-unanswered_shown net log n k e left after first old new verdict is = record { since = is.searching.since; whole = is.searching.whole; finals = λ clause hints in'. (is.asked, is.finals clause hints in'); few = is.few }
+pub unanswered_shown : (net : Net) (log : Log) (n k e budget : ℕ) (first : List RunStep) (old new : List BookEntry) (verdict : Verdict) → IsVerdictShown net log n k e first budget old new verdict → EndsWithoutVerdict net log n k e first old new
+unanswered_shown net log n k e budget first old new verdict is = record { since = is.put.since; whole = is.put.whole; finals = λ clause hints in'. (is.asked, is.put.finals clause hints in'); few = is.put.few }
 
 -- behind the opening mark the question is left open
 pub left_open : (net : Net) (log : Log) (n k e budget left : ℕ) (first : List RunStep) (old opened asked : List BookEntry) → opened ≡ old ++ mark 0 ∷ [] → IsSearching opened asked budget left → EndsWithoutVerdict net log n k e first opened asked → IsVerdictOpenAtMost net log n k e budget first old asked
-left_open net log n k e budget left first old opened asked begins searching is = inr (record {
-  since = searching.since;
-  whole = searching.whole ∙ ap (λ b. b ++ searching.since) begins ∙ append_assoc old (mark 0 ∷ []) searching.since;
-  unmarked = searching.unmarked;
-  within = (let paid = searching.paid in omega (arith, paid));
-  fresh = subst (λ b. AreFresh b searching.since (count_by is_learnt searching.since)) begins searching.fresh;
-  finals = subst (FinalsNegateAsked (axioms_of asked) net log n k e first) same is.finals;
-  few = subst (λ (entries : List BookEntry). count_by is_final entries ≤ 1) same is.few;
-})
-  where
-    same : is.since ≡ searching.since
-    same = append_cancel_left opened is.since searching.since (sym is.whole ∙ searching.whole)
+left_open net log n k e budget left first old opened asked begins searching is =
+    let negates = NegatesAsked (axioms_of asked) net log n k e first in
+    inr (leaves_open negates 1 budget old opened asked begins (leaves_both negates 1 budget left opened asked searching is))

@@ -4,7 +4,7 @@ use Rattle.fault_verdicts.proofs.Ready.{ready_by_solver}
 use Rattle.fault_verdicts.specs.Judging.{KeepsStepsAndLog}
 use Rattle.fault_verdicts.specs.Ready.{AreReadyWith, AreReadyForVerdicts}
 use Rattle.least_faults.proofs.Columns.{keeps_both, keeps_none}
-use Rattle.least_faults.proofs.Freshness.{known_same}
+use Rattle.sat_solve.proofs.Freshness.{known_same}
 use Rattle.least_faults.proofs.Ranking.{still_ranked}
 use Rattle.least_faults.specs.Columns.{columns_built}
 use Rattle.least_faults.specs.Growing.{KeepsQuestion}

@@ -14,7 +14,7 @@ use Rattle.fault_verdicts.specs.Judged.{IsBestRun, IsVerdict, IsPossibleFound, I
 use Rattle.fault_verdicts.specs.Judging.{IsAbout, verdict_of}
 use Rattle.fault_verdicts.specs.Verdicts.{IsBest}
 use Rattle.answers.specs.declared.verdict.Verdict.TheVariants.{Possible, Open}
-use Rattle.least_faults.specs.Evidence.{HasFinal}
+use Rattle.sat_solve.specs.Leaving.{HasFinal}
 use Rattle.question_clauses.proofs.Lists.{all_at, from_numbers, in_numbers}
 use Rattle.log_order.specs.Log.{Log}
 use Rattle.proof_ledger.specs.Book.{BookEntry}

@@ -11,8 +11,8 @@ use Rattle.fault_verdicts.proofs.Ready.{ready_with_literal}
 use Rattle.fault_verdicts.specs.Asked.{some_step_clause}
 use Rattle.fault_verdicts.specs.Judging.{HasMade, event_signed}
 use Rattle.fault_verdicts.specs.Ready.{AreReadyWith}
-use Rattle.least_faults.proofs.Freshness.{known_after}
-use Rattle.least_faults.specs.Growing.{AddsAxioms}
+use Rattle.sat_solve.proofs.Freshness.{known_after}
+use Rattle.sat_solve.specs.Leaving.{AddsAxioms}
 use Rattle.least_faults.specs.declared.parts.Parts.{Parts}
 use Rattle.proof_ledger.specs.Book.{BookEntry, axiomatic, clauses_of}
 use Rattle.prop_core.specs.Clauses.{Clause, HasValues}

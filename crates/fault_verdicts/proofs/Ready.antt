@@ -20,7 +20,7 @@ use Rattle.least_faults.proofs.Below.{room_names_below}
 use Rattle.least_faults.proofs.Beside.{beside, clauses_still}
 use Rattle.least_faults.proofs.ColumnsBuilt.{vars_grow}
 use Rattle.least_faults.specs.Columns.{columns_built}
-use Rattle.least_faults.specs.Growing.{AddsAxioms, KeepsQuestion}
+use Rattle.least_faults.specs.Growing.{KeepsQuestion}
 use Rattle.least_faults.specs.Parts.{AreReady, AreReadyBeside, BelongTo, HaveRoom, IsBuilt, built_of, meanings_of_parts}
 use Rattle.least_faults.specs.declared.TheConstants.{MOST_SIZE}
 use Rattle.least_faults.specs.declared.parts.Parts.{Parts}
@@ -48,6 +48,7 @@ use Rattle.step_encode.proofs.Codes.{event_named}
 use Rattle.step_encode.specs.Coded.{CodedSteps, code_meanings, code_grid}
 use Rattle.step_encode.specs.FaultInputs.{event_literals}
 use Rattle.proof_ledger.proofs.AxiomLists.{axioms_added}
+use Rattle.sat_solve.specs.Leaving.{AddsAxioms}
 
 -- ---- variables without a name
 

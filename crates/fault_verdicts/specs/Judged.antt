@@ -1,15 +1,14 @@
 -- A verdict, and what the entries since its question was opened show.
-use Rattle.std.specs.Prelude.{◌≡◌, ◌⊎◌, ◌↔◌, ℕ, ◌≤◌, List, [], ◌∷◌, ◌++◌, Contains, count_by}
+use Rattle.std.specs.Prelude.{◌≡◌, ◌⊎◌, ◌↔◌, ℕ, ◌≤◌, List, [], ◌∷◌, ◌++◌, Contains}
 use Rattle.des_net.specs.Network.{Net}
 use Rattle.fault_verdicts.specs.Asked.{Question, without, with_event, IsPosedOf}
 use Rattle.fault_verdicts.specs.Verdicts.{IsBest, IsCertain, IsExcluded, IsPossible}
 use Rattle.answers.specs.declared.verdict.Verdict.{Verdict}
 use Rattle.answers.specs.declared.verdict.Verdict.TheVariants.{Certain, Excluded, Possible, Open}
-use Rattle.least_faults.specs.Answers.{HaveLearntFresh}
-use Rattle.least_faults.specs.Evidence.{HasFinal, is_final}
+use Rattle.sat_solve.specs.Leaving.{HasFinal, LeavesOpen, LeavesClosed}
 use Rattle.log_order.specs.Log.{Log}
-use Rattle.proof_ledger.specs.Book.{BookEntry, final, mark, axioms_of, clauses_of, is_mark}
-use Rattle.proof_ledger.specs.Fresh.{AreFresh, is_learnt}
+use Rattle.proof_ledger.specs.Book.{BookEntry, mark, axioms_of, clauses_of}
+use Rattle.proof_ledger.specs.Fresh.{AreFresh}
 use Rattle.prop_core.specs.Clauses.{Clause, NegatesOnly}
 use Rattle.prop_core.specs.Trail.{Clashes}
 use Rattle.prop_core.specs.declared.lit.Lit.{Lit}
@@ -59,10 +58,6 @@ pub record IsOpenFound (axioms clauses : List Clause) (earlier since : List Book
   pub posed : IsPosedOf axioms assumed net log n k e question
   pub clashes : Clashes clauses assumed
 
--- each final entry has no literals but negations of what is assumed
-abbrev pub FinalsNegateAssumed : List Lit → List BookEntry → Type 0
-FinalsNegateAssumed assumed entries = (clause : Clause) (hints : List ℕ) → Contains entries (final clause hints) → NegatesOnly assumed clause
-
 -- The axioms pose the question about the event, with some assumptions, beside the best run that is known.
 pub record IsQuestionAbout (axioms : List Clause) (net : Net) (log : Log) (n k e : ℕ) (first : List RunStep) : Type 0 where
   pub question : Question
@@ -79,31 +74,19 @@ IsVerdict axioms clauses earlier since net log n k e budget first Open = IsOpenF
 
 -- The question was opened by a mark 0 and closed by a mark 1, and the entries between show the verdict. Whatever it is, all axioms of the book pose the question, with some assumptions that each final entry negates, of which there is at most one. At most as many clauses as the budget says were learnt, each of them fresh.
 pub record IsJudged (net : Net) (log : Log) (n k e budget : ℕ) (first : List RunStep) (old new : List BookEntry) (verdict : Verdict) : Type 0 where
-  pub since : List BookEntry
-  pub whole : new ≡ old ++ mark 0 ∷ since ++ mark 1 ∷ []
-  pub unmarked : (number : ℕ) → count_by (is_mark number) since ≡ 0
-  pub within : count_by is_learnt since ≤ budget
-  pub fresh : HaveLearntFresh (old ++ mark 0 ∷ []) since
   pub asked : IsQuestionAbout (axioms_of new) net log n k e first
-  pub finals : FinalsNegateAssumed asked.assumed since
-  pub few : count_by is_final since ≤ 1
-  pub found : IsVerdict (axioms_of new) (clauses_of new) (old ++ mark 0 ∷ []) since net log n k e budget first verdict
+  pub left : LeavesClosed (NegatesOnly asked.assumed) 1 budget old new
+  pub found : IsVerdict (axioms_of new) (clauses_of new) (old ++ mark 0 ∷ []) left.since net log n k e budget first verdict
 
 -- ---- without a verdict
 
--- Where there is a final entry, the axioms pose the question about the event, with assumptions that it negates.
-abbrev pub FinalsNegateAsked : List Clause → Net → Log → ℕ → ℕ → ℕ → List RunStep → List BookEntry → Type 0
-FinalsNegateAsked axioms net log n k e first entries = (clause : Clause) (hints : List ℕ) → Contains entries (final clause hints) → (asked : IsQuestionAbout axioms net log n k e first) × NegatesOnly asked.assumed clause
+-- The axioms pose the question about the event, with assumptions that this clause negates.
+abbrev pub NegatesAsked : List Clause → Net → Log → ℕ → ℕ → ℕ → List RunStep → Clause → Type 0
+NegatesAsked axioms net log n k e first clause = (asked : IsQuestionAbout axioms net log n k e first) × NegatesOnly asked.assumed clause
 
 -- The question was opened by a mark 0 and has no verdict: no mark stands behind that one. At most as many clauses as the budget says were learnt, each of them fresh. There is at most one final entry, which negates what the question assumes.
-pub record IsVerdictLeftOpen (net : Net) (log : Log) (n k e budget : ℕ) (first : List RunStep) (old new : List BookEntry) : Type 0 where
-  pub since : List BookEntry
-  pub whole : new ≡ old ++ mark 0 ∷ since
-  pub unmarked : (number : ℕ) → count_by (is_mark number) since ≡ 0
-  pub within : count_by is_learnt since ≤ budget
-  pub fresh : HaveLearntFresh (old ++ mark 0 ∷ []) since
-  pub finals : FinalsNegateAsked (axioms_of new) net log n k e first since
-  pub few : count_by is_final since ≤ 1
+abbrev pub IsVerdictLeftOpen : Net → Log → (n k e budget : ℕ) → List RunStep → (old new : List BookEntry) → Type 0
+IsVerdictLeftOpen net log n k e budget first old new = LeavesOpen (NegatesAsked (axioms_of new) net log n k e first) 1 budget old new
 
 -- Out of memory the question about the event is open at most: the book is as it was, or the question is left open in it.
 abbrev pub IsVerdictOpenAtMost : Net → Log → ℕ → ℕ → ℕ → ℕ → List RunStep → List BookEntry → List BookEntry → Type 0

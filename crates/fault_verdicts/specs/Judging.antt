@@ -4,12 +4,12 @@ use Rattle.card_counter.specs.CounterState.{CounterState, positive}
 use Rattle.des_base.specs.Lists.{numbers_below}
 use Rattle.des_net.specs.Network.{Net}
 use Rattle.fault_verdicts.specs.Asked.{no_step_literals}
-use Rattle.fault_verdicts.specs.Judged.{FinalsNegateAsked, FinalsNegateAssumed, IsQuestionAbout, IsVerdict}
+use Rattle.fault_verdicts.specs.Judged.{IsQuestionAbout, IsVerdict, NegatesAsked}
 use Rattle.fault_verdicts.specs.Ready.{AreReadyWith}
 use Rattle.answers.specs.declared.verdict.Verdict.{Verdict}
 use Rattle.answers.specs.declared.verdict.Verdict.TheVariants.{Certain, Excluded}
-use Rattle.least_faults.specs.Asking.{AreAssumptions, IsSearching}
-use Rattle.least_faults.specs.Evidence.{HasFinal, is_final}
+use Rattle.least_faults.specs.Asking.{AreAssumptions}
+use Rattle.least_faults.specs.Evidence.{is_final}
 use Rattle.least_faults.specs.Growing.{KeepsColumns}
 use Rattle.least_faults.specs.declared.parts.Parts.{Parts}
 use Rattle.log_order.specs.Log.{Log}
@@ -22,6 +22,8 @@ use Rattle.sat_solve.specs.Searching.{IsModel, IsSpent}
 use Rattle.sat_solve.specs.declared.answer.Answer.{Answer}
 use Rattle.sat_solve.specs.declared.answer.Answer.TheVariants.{Sat, Unsat, Spent}
 use Rattle.step_encode.specs.Coded.{code_grid}
+use Rattle.sat_solve.specs.Leaving.{IsSearching, HasFinal, EachFinal, PutsFinals, LeavesBare}
+use Rattle.prop_core.specs.Clauses.{NegatesOnly}
 
 -- the literal of an event in step t, counted from 0, with this sign
 abbrev pub signed_literal : Grid → Bool → ℕ → ℕ → Lit
@@ -81,7 +83,7 @@ pub record IsSolvedAbout {R : Type 0} (may : R → ℕ → Type 0) (gives : R �
   pub assumed : List Lit
   pub are : AreAssumedOf may gives parts new k e there assumed
   pub searching : IsSearching old new left_old left_new
-  pub finals : FinalsNegateAssumed assumed searching.since
+  pub finals : EachFinal (NegatesOnly assumed) searching.since
   pub few : count_by is_final searching.since ≤ 1
   pub says : IsSaidBy parts.solver.assignment searching.since new assumed left_new answer
 
@@ -96,16 +98,11 @@ verdict_of true = Certain
 verdict_of false = Excluded
 
 -- The entries that were put show the verdict, by what was left of the budget, and all axioms pose the question, whose assumptions a final entry negates; there is at most one. Each clause that was learnt was fresh.
-pub record IsVerdictShown (net : Net) (log : Log) (n k e : ℕ) (first : List RunStep) (left_old left_new : ℕ) (old new : List BookEntry) (verdict : Verdict) : Type 0 where
-  pub searching : IsSearching old new left_old left_new
+pub record IsVerdictShown (net : Net) (log : Log) (n k e : ℕ) (first : List RunStep) (budget : ℕ) (old new : List BookEntry) (verdict : Verdict) : Type 0 where
   pub asked : IsQuestionAbout (axioms_of new) net log n k e first
-  pub finals : FinalsNegateAssumed asked.assumed searching.since
-  pub few : count_by is_final searching.since ≤ 1
-  pub found : IsVerdict (axioms_of new) (clauses_of new) old searching.since net log n k e left_old first verdict
+  pub put : LeavesBare (NegatesOnly asked.assumed) 1 budget old new
+  pub found : IsVerdict (axioms_of new) (clauses_of new) old put.since net log n k e budget first verdict
 
 -- It ended without a verdict: at most one final entry was put, which negates what the question assumes.
-pub record EndsWithoutVerdict (net : Net) (log : Log) (n k e : ℕ) (first : List RunStep) (old new : List BookEntry) : Type 0 where
-  pub since : List BookEntry
-  pub whole : new ≡ old ++ since
-  pub finals : FinalsNegateAsked (axioms_of new) net log n k e first since
-  pub few : count_by is_final since ≤ 1
+abbrev pub EndsWithoutVerdict : Net → Log → (n k e : ℕ) → List RunStep → (old new : List BookEntry) → Type 0
+EndsWithoutVerdict net log n k e first old new = PutsFinals (NegatesAsked (axioms_of new) net log n k e first) 1 old new

@@ -4,7 +4,7 @@ ghost use Rattle.des_net.specs.Network.{is_fault};
 ghost use Rattle.fault_verdicts.specs.Judging.{AreAssumedOf, KeepsStepsAndLog, bound_for};
 ghost use Rattle.fault_verdicts.specs.Ready.{AreReadyForVerdicts, AreReadyWith};
 ghost use Rattle.least_faults.specs.Asking.{AreAssumptions};
-ghost use Rattle.least_faults.specs.Growing.{AddsAxioms};
+ghost use Rattle.sat_solve.specs.Leaving.{AddsAxioms};
 
 use crate::literals::{in_some_step, push_event};
 use des_base::{EventId, Memory};

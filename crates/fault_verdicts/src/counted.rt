@@ -6,31 +6,23 @@
 // try this.
 ghost use Rattle.std.specs.Prelude.{◌≡◌};
 
+use crate::listing::fault_list;
 use des_base::Memory;
-use least_faults::Parts;
+use des_net::Network;
+use least_faults::{MOST_TRIES, Parts};
 use prop_core::Lit;
 use std::alloc::Global;
-
-// No more literals are tried.
-const MOST: usize = 100_000;
-
-// How the inputs of the counter stand: those of each event side by side, and behind them those of the doubtful alarms.
-#[derive(Clone, Copy)]
-struct Layout {
-    events: u32,
-    steps: u32,
-    doubtful: u32,
-}
 
 // Advises the solver on questions beside a run with this many faults. If memory runs out, there is no advice.
 pub fn advise<R: Fn(u32) -> u64>(
     alloc: Global,
+    net: &Network,
     parts: &mut Parts<R>,
     faults: u32,
 ) -> Result<(), Memory>
     ensures { parts.new ≡ parts.old }
 {
-    let tries = tries_within(alloc, parts, faults)?;
+    let tries = tries_within(alloc, net, parts, faults)?;
     parts.solver.try_further(tries.as_slice())
 }
 
@@ -38,62 +30,50 @@ pub fn advise<R: Fn(u32) -> u64>(
 // counted up to an event, the first event first.
 fn tries_within<R: Fn(u32) -> u64>(
     alloc: Global,
+    net: &Network,
     parts: &Parts<R>,
     faults: u32,
 ) -> Result<Vec<Lit>, Memory> {
-    let layout = layout_of(parts);
+    let events = fault_list(alloc, net)?.len();
     let mut tries = Vec::new(alloc);
     for column in 0..faults.min(parts.counter.columns()) {
-        let last = parts.counter.bound_lit(column).var;
-        push_column(layout, last, column + 1 == faults, &mut tries)?;
+        push_column(parts, events, column, column + 1 == faults, &mut tries)?;
     }
     Ok(tries)
 }
 
-// The layout of the counter's inputs. It has no more events than literals are tried.
-fn layout_of<R>(parts: &Parts<R>) -> Layout {
-    let steps = parts.step.grid().steps;
-    let doubtful = parts.code.false_lits().len();
-    let of_events = parts.counter.inputs().saturating_sub(doubtful);
-    let events = if steps == 0 {
-        0
-    } else {
-        of_events / steps as usize
-    };
-    Layout {
-        events: events.min(MOST) as u32,
-        steps,
-        doubtful: doubtful.min(MOST) as u32,
-    }
-}
-
-// Adds what is tried of a column, given its last variable: the variable of the last step of each event.
-fn push_column(
-    layout: Layout,
-    last: u32,
+// Adds what is tried of a column, for each of this many fault events.
+fn push_column<R: Fn(u32) -> u64>(
+    parts: &Parts<R>,
+    events: usize,
+    column: u32,
     is_final: bool,
     tries: &mut Vec<Lit>,
 ) -> Result<(), Memory> {
-    for event in 0..layout.events {
-        let behind = if is_final {
-            layout.events - 1 - event
+    for number in 0..events {
+        let event = if is_final {
+            number
         } else {
-            event
+            events - 1 - number
         };
-        if tries.len() < MOST {
-            tries.push(lit_before(layout, last, behind, is_final))?;
+        if let Some(reached) = counted_up_to(parts, event, column) {
+            push_tried(if is_final { reached } else { reached.negated() }, tries)?;
         }
     }
     Ok(())
 }
 
-// The literal of a column where this many events come behind.
-fn lit_before(layout: Layout, last: u32, behind: u32, positive: bool) -> Lit {
-    let places = behind
-        .saturating_mul(layout.steps)
-        .saturating_add(layout.doubtful);
-    Lit {
-        var: last.saturating_sub(places),
-        positive,
+// Adds a literal as long as there aren't too many.
+fn push_tried(lit: Lit, tries: &mut Vec<Lit>) -> Result<(), Memory> {
+    if tries.len() < MOST_TRIES {
+        tries.push(lit)?;
     }
+    Ok(())
+}
+
+// The literal that the faults up to an event, of the fault events in their order, are more than a column's number. None: there is no step.
+fn counted_up_to<R>(parts: &Parts<R>, event: usize, column: u32) -> Option<Lit> {
+    let steps = parts.step.grid().steps as usize;
+    let last = event.checked_add(1)?.checked_mul(steps)?.checked_sub(1)?;
+    parts.counter.reached(last, column)
 }

@@ -59,7 +59,7 @@ impl<'a, R: Fn(u32) -> u64> Judge<'a, R> {
     {
         let mut parts = parts;
         // Out of memory it goes on without advice.
-        let _ = advise(alloc, &mut parts, best.faults);
+        let _ = advise(alloc, net, &mut parts, best.faults);
         let about = About {
             net,
             log,

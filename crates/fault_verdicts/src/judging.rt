@@ -5,8 +5,8 @@ ghost use Rattle.des_net.specs.Network.{is_fault};
 ghost use Rattle.fault_verdicts.specs.Judged.{IsBestRun, IsJudged, IsVerdictOpenAtMost};
 ghost use Rattle.fault_verdicts.specs.Judging.{AreAssumedOf, IsSolvedAbout, EndsWithoutVerdict, KeepsStepsAndLog, IsVerdictShown, has_this, verdict_of};
 ghost use Rattle.fault_verdicts.specs.Ready.{AreReadyForVerdicts};
-ghost use Rattle.least_faults.specs.Asking.{IsSearching, PutsNoFinal};
-ghost use Rattle.least_faults.specs.Growing.{AddsAxioms, HasGrownWithin};
+ghost use Rattle.sat_solve.specs.Leaving.{IsSearching, PutsNoFinal, AddsAxioms};
+ghost use Rattle.least_faults.specs.Growing.{HasGrownWithin};
 ghost use Rattle.least_faults.specs.Parts.{BelongTo};
 ghost use Rattle.replay.specs.Traced.{event_of, word_of};
 
@@ -86,14 +86,14 @@ fn ask<R: Fn(u32) -> u64>(
     ensures goes_on { KeepsStepsAndLog 1 parts.old parts.new }
     ensures unmade { Contains (word_of first.now) event → KeepsStepsAndLog 0 parts.old parts.new }
     ensures searching { IsSearching book.old.entries book.new.entries left.old left.new }
-    ensures asked { IfOk result (IsVerdictShown question.entry.net.now question.entry.log.now parts.new.step.steps k event first.now left.old left.new book.old.entries book.new.entries) }
+    ensures asked { IfOk result (IsVerdictShown question.entry.net.now question.entry.log.now parts.new.step.steps k event first.now left.old book.old.entries book.new.entries) }
     ensures quit { OnErr result (EndsWithoutVerdict question.entry.net.now question.entry.log.now parts.new.step.steps k event first.now book.old.entries book.new.entries) }
 {
     question.net.is_built();
     question.log.is_whole();
     let there = has_event(first, event);
     let answer = solve(question, parts, book, k, there, event, left)?;
-    book.entries();
+    book.is_valid();
     match answer {
         Answer::Unsat(_) => Ok(refuted(there)),
         Answer::Spent => Ok(Verdict::Open),

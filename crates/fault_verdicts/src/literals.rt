@@ -4,7 +4,7 @@ ghost use Rattle.des_net.specs.Network.{is_fault};
 ghost use Rattle.fault_verdicts.specs.Asked.{some_step_clause};
 ghost use Rattle.fault_verdicts.specs.Judging.{KeepsStepsAndLog, HasMade, event_signed};
 ghost use Rattle.fault_verdicts.specs.Ready.{AreReadyForVerdicts};
-ghost use Rattle.least_faults.specs.Growing.{AddsAxioms};
+ghost use Rattle.sat_solve.specs.Leaving.{AddsAxioms};
 ghost use Rattle.proof_ledger.specs.Book.{axiomatic, clauses_of};
 ghost use Rattle.prop_core.specs.Clauses.{HasValues};
 ghost use Rattle.step_encode.specs.Coded.{code_grid};

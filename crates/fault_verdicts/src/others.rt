@@ -1,5 +1,5 @@
 // An event is judged by a run that was found before, or by a question.
-ghost use Rattle.std.specs.Prelude.{◌≡◌, ◌<◌, ◌≤◌, Contains, length, true, IfOk, IfSome, OnErr};
+ghost use Rattle.std.specs.Prelude.{◌≡◌, ◌<◌, Contains, length, true, IfOk, IfSome, OnErr};
 ghost use Rattle.des_net.specs.Network.{is_fault};
 ghost use Rattle.fault_verdicts.specs.Judged.{IsPossibleFound};
 ghost use Rattle.fault_verdicts.specs.Judges.{AddsPossible, DiffersIn, IsEventJudged, IsJudgeOf, IsLeftUnjudged, IsReadyToJudge, KeepsSteps, matter_of};

@@ -5,13 +5,13 @@ use Rattle.des_base.specs.declared.TheConstants.{MOST_STEPS}
 use Rattle.des_base.specs.declared.memory.Memory.{Memory}
 use Rattle.des_net.specs.Network.{Net}
 use Rattle.least_faults.proofs.AxiomLists.{adds_both}
-use Rattle.least_faults.proofs.Freshness.{fresh_axioms, fresh_both}
+use Rattle.sat_solve.proofs.Freshness.{fresh_axioms, fresh_both}
 use Rattle.answers.specs.declared.found.Found.{Found}
 use Rattle.least_faults.specs.declared.parts.Parts.{Parts}
-use Rattle.least_faults.specs.Answers.{HaveLearntFresh, IsAnswered, IsOpenAtMost}
+use Rattle.least_faults.specs.Answers.{IsAnswered, IsOpenAtMost}
 use Rattle.least_faults.proofs.Staying.{belong_still, built_still}
 use Rattle.least_faults.specs.Building.{AreBuilt}
-use Rattle.least_faults.specs.Growing.{AddsAxioms, HasGrownWithin, KeepsQuestion}
+use Rattle.least_faults.specs.Growing.{HasGrownWithin, KeepsQuestion}
 use Rattle.least_faults.specs.Parts.{AreReady, IsBuilt, built_of, meanings_of_parts}
 use Rattle.log_order.specs.Log.{Log}
 use Rattle.proof_ledger.specs.Book.{BookEntry, axiomatic, axioms_of, IsValidBook}
@@ -24,6 +24,7 @@ use Rattle.sat_solve.specs.Solving.{SolverState}
 use Rattle.inquiries.specs.Begun.{ArePartsOf, HasAskedWithin, HasBegun, HasLearntWithin, HasQuestion, IsAnsweredOnce, IsOpenOnce, MayLearn, unasked_book}
 use Rattle.inquiries.specs.Diagnosed.{IsDiagnosed}
 use Rattle.proof_ledger.proofs.AxiomLists.{axioms_added, none_learnt}
+use Rattle.sat_solve.specs.Leaving.{HaveLearntFresh, AddsAxioms}
 
 -- what is built is what was answered
 pub ok_some : {A B : Type 0} (r : Result A B) (P : A → Type 0) (a : A) → Some a ≡ result_ok r → IfOk r P → P a

@@ -16,7 +16,7 @@ use Rattle.least_faults.specs.declared.parts.Parts.{Parts}
 use Rattle.least_faults.specs.Asking.{AreAssumed, AreAssumptions, assumed_by}
 use Rattle.least_faults.specs.Columns.{columns_for}
 use Rattle.least_faults.specs.Evidence.{IsPosed}
-use Rattle.least_faults.specs.Growing.{AddsAxioms, KeepsQuestion}
+use Rattle.least_faults.specs.Growing.{KeepsQuestion}
 use Rattle.least_faults.specs.Parts.{AreParts, AreReady, BelongTo, IsBuilt, built_of, meanings_of_parts}
 use Rattle.question_clauses.specs.LogClauses.{guard_literals}
 use Rattle.log_encode.specs.CodedLog.{CodedLog, without_names}
@@ -38,6 +38,7 @@ use Rattle.step_encode.specs.Coded.{CodedSteps}
 use Rattle.inquiries.proofs.Diagnosing.{axioms_alone}
 use Rattle.inquiries.specs.Formula.{IsFormulaOf, IsSatisfiable, bound_within, counted_bound, question_assumed, question_formula, question_within}
 use Rattle.proof_ledger.proofs.AxiomLists.{axioms_added, clauses_added}
+use Rattle.sat_solve.specs.Leaving.{AddsAxioms}
 
 -- ---- what makes it true
 

@@ -17,7 +17,7 @@ use Rattle.least_faults.specs.declared.parts.Parts.{Parts}
 use Rattle.least_faults.specs.Answers.{IsAnswered}
 use Rattle.least_faults.specs.Asking.{AreAssumed, assumed_by, bound_part}
 use Rattle.least_faults.specs.Columns.{built_within, columns_for}
-use Rattle.least_faults.specs.Evidence.{HasLastFinal, IsEvidence, IsPosed, is_final}
+use Rattle.least_faults.specs.Evidence.{IsEvidence, IsPosed, is_final}
 use Rattle.least_faults.specs.Parts.{AreReady, BelongTo, IsBuilt, meanings_of_parts}
 use Rattle.question_clauses.proofs.LogCodes.{IsReadOf, named_entry, read_of}
 use Rattle.question_clauses.proofs.Guards.{literal_named}
@@ -50,6 +50,7 @@ use Rattle.inquiries.proofs.Formulas.{posed_by}
 use Rattle.inquiries.proofs.LastFinals.{has_final, last_found}
 use Rattle.std.proofs.Math.ListN.{get_or-append}
 use Rattle.proof_ledger.proofs.AxiomLists.{axioms_added, clauses_added}
+use Rattle.sat_solve.specs.Leaving.{HasLastFinal}
 
 -- ---- what reads as the same literals is the same
 
@@ -401,9 +402,9 @@ evidence_for net log n parts budget begun old book found steps is_first is_old a
     (subst (λ (o : List BookEntry). IsAnswered (meanings_of_parts parts) begun net log parts.step.steps budget o book found) (is_old ∙ ap (λ k. map axiomatic (question_axioms net log k 0)) (sym steps)) answered))
   where
     by : (f : Found) → IsAnswered (meanings_of_parts parts) (question_built net log parts.step.steps 0) net log parts.step.steps budget (map axiomatic (question_axioms net log parts.step.steps 0)) book f → HasEvidenceFor net log parts book f
-    by (Explained best) a = (a.found.few, λ k is. evidence_within net log parts a.since book (Some k) a.whole (a.found.evidence k is))
-    by Absent a = evidence_within net log parts a.since book None a.whole a.found.evidence
-    by (Many best) a = evidence_within net log parts a.since book (Some 255) a.whole a.found.evidence
+    by (Explained best) a = (a.found.few, λ k is. evidence_within net log parts a.left.since book (Some k) a.left.whole (a.found.evidence k is))
+    by Absent a = evidence_within net log parts a.left.since book None a.left.whole a.found.evidence
+    by (Many best) a = evidence_within net log parts a.left.since book (Some 255) a.left.whole a.found.evidence
     by (Undecided lo best) a = tt
 
 pub ok_both : {A B : Type 0} (r : Result A B) (P Q S : A → Type 0) → ((a : A) → P a → Q a → S a) → IfOk r P → IfOk r Q → IfOk r S

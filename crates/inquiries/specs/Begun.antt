@@ -4,13 +4,14 @@ use Rattle.answers.specs.declared.found.Found.{Found}
 use Rattle.des_base.specs.declared.TheConstants.{MOST_STEPS}
 use Rattle.des_net.specs.Network.{Net}
 use Rattle.least_faults.specs.declared.parts.Parts.{Parts}
-use Rattle.least_faults.specs.Answers.{HaveLearntFresh, IsAnswered, IsOpenAtMost}
+use Rattle.least_faults.specs.Answers.{IsAnswered, IsOpenAtMost}
 use Rattle.least_faults.specs.Parts.{AreReady, BelongTo, IsBuilt}
 use Rattle.log_order.specs.Log.{Log}
 use Rattle.proof_ledger.specs.Book.{BookEntry, axiomatic, axioms_of, IsValidBook}
 use Rattle.proof_ledger.specs.Fresh.{is_learnt}
 use Rattle.prop_core.specs.VariableNames.{Meaning}
 use Rattle.run_decode.specs.QuestionAxioms.{question_axioms, question_built}
+use Rattle.sat_solve.specs.Leaving.{HaveLearntFresh}
 
 -- The axioms of the book are those of a question about network and log, and the parts are theirs.
 pub record ArePartsOf {R : Type 0} (may : R → ℕ → Type 0) (gives : R → ℕ → ℕ → Type 0) (net : Net) (log : Log) (parts : Parts R) (book : List BookEntry) : Type 0 where

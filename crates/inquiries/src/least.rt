@@ -57,6 +57,6 @@ pub fn find_least<R: Fn(u32) -> u64>(
     ensures left { HasQuestion case.now.net case.now.log parts.old.step.steps (HasAskedWithin budget) book.new.entries }
 {
     let found = least(alloc, &case.net, &case.log, parts, book, budget);
-    book.entries();
+    book.is_valid();
     found
 }

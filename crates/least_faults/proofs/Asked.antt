@@ -1,5 +1,5 @@
 -- What a question comes to: what it leaves in the book, and what its answer means.
-use Rattle.std.proofs.Common.{◌≡◌, ◌≢◌, ◌∙◌, ℕ, ◌+◌, ◌<◌, ◌≤◌, inl, inr, Bool, true, false, List, [], ◌∷◌, ◌++◌, length, max, Option, None, Some, IfSome, IfNone, map, refl, sym, ap, subst, arith, Contains, count_by, IsTrue, append-nil, append_assoc}
+use Rattle.std.proofs.Common.{◌≡◌, ◌≢◌, ◌∙◌, ℕ, ◌+◌, ◌<◌, ◌≤◌, inl, inr, Bool, true, false, List, [], ◌∷◌, ◌++◌, length, max, Option, None, Some, IfSome, IfNone, map, refl, sym, ap, subst, arith, Contains, IsTrue, append-nil, append_assoc}
 use Rattle.std.specs.Prelude.{⊤}
 use Rattle.std.proofs.lemmas.List.{append_cancel_left}
 use Rattle.std.specs.List.{AllByRecursion, list_any, list_all}
@@ -11,7 +11,6 @@ use Rattle.des_net.specs.Network.{Net, IsNetwork}
 use Rattle.least_faults.proofs.Assuming.{assumed_below}
 use Rattle.least_faults.proofs.Below.{axioms_below}
 use Rattle.least_faults.proofs.Entailing.{final_entailed}
-use Rattle.least_faults.proofs.Freshness.{fresh_after, fresh_axioms}
 use Rattle.least_faults.proofs.KnownVariables.{book_below, known_back}
 use Rattle.least_faults.proofs.Posing.{poses}
 use Rattle.least_faults.proofs.Putting.{axioms_with_learnt}
@@ -21,15 +20,15 @@ use Rattle.least_faults.specs.declared.asking.Asked.{Asked}
 use Rattle.least_faults.specs.declared.asking.Asked.TheVariants.{Explained, Refuted, Spent}
 use Rattle.least_faults.specs.declared.parts.Parts.{Parts}
 use Rattle.answers.specs.Explanations.{IsExplanation}
-use Rattle.least_faults.specs.Asking.{AreAssumptions, bound_part, GoesOnReady, IsSearching, ArePut, HasAskedBy, PutsNoFinal}
+use Rattle.least_faults.specs.Asking.{AreAssumptions, bound_part, GoesOnReady, ArePut, HasAskedBy}
 use Rattle.least_faults.specs.Columns.{built_within, columns_for}
 use Rattle.least_faults.specs.Evidence.{IsPosed, is_final}
-use Rattle.least_faults.specs.Growing.{AddsAxioms, KeepsQuestion}
+use Rattle.least_faults.specs.Growing.{KeepsQuestion}
 use Rattle.least_faults.specs.Parts.{AreParts, AreReady}
 use Rattle.question_clauses.proofs.Lists.{all_at}
 use Rattle.log_encode.specs.CodedLog.{CodedLog, without_names}
 use Rattle.log_order.specs.Log.{Log, IsValidLog}
-use Rattle.proof_ledger.specs.Book.{BookEntry, axiomatic, learnt, final, mark, axioms_of, clauses_of, is_mark, IsValidBook}
+use Rattle.proof_ledger.specs.Book.{BookEntry, axiomatic, learnt, final, mark, axioms_of, clauses_of, IsValidBook}
 use Rattle.proof_ledger.specs.Fresh.{is_learnt}
 use Rattle.prop_core.specs.Clauses.{Clause, HasValues, clause_true, literal_true, AllClausesTrue, AllLiteralsTrue}
 use Rattle.prop_core.specs.declared.lit.Lit.{Lit}
@@ -39,62 +38,17 @@ use Rattle.run_decode.specs.Faithful.{IsWithin, IsFaithful}
 use Rattle.run_decode.specs.Decoding.{IsTrueRun}
 use Rattle.run_decode.specs.QuestionAxioms.{BuiltQuestion}
 use Rattle.least_faults.proofs.Ranking.{still_ranked}
-use Rattle.sat_solve.specs.Searching.{IsClosedByFinal, HasAxiomVars, HasLearnt, IsSearched, HasPut, IsRefuted, IsSpent}
+use Rattle.sat_solve.specs.Searching.{IsClosedByFinal, HasAxiomVars, IsSearched, HasPut, IsRefuted, IsSpent}
 use Rattle.sat_solve.specs.Solving.{KeepsSize, SolverState}
 use Rattle.sat_solve.specs.declared.answer.Answer.TheVariants as solver
 use Rattle.std.proofs.lemmas.List.Elements.{Contains-append_left as append_left, Contains-append_right as append_right}
-use Rattle.run_decode.proofs.Faults.{count_append}
 use Rattle.run_decode.specs.WholeNaming.{whole_meanings}
 use Rattle.step_encode.specs.Coded.{CodedSteps}
-use Rattle.proof_ledger.proofs.AxiomLists.{none_learnt}
-use Rattle.sat_solve.proofs.Entries.{AreFinalsFor, IsLastFinalFor, derived_unmarked, last_final_for, learnt_no_final, no_final_in, none_counted, none_final, none_joined, none_marked, put_finals, put_since, same_axioms}
+use Rattle.sat_solve.proofs.Entries.{AreFinalsFor, IsLastFinalFor, last_final_for, learnt_no_final, no_final_in, none_counted, none_final, none_joined, put_finals, put_since, same_axioms}
+use Rattle.sat_solve.specs.Leaving.{AddsAxioms}
+use Rattle.sat_solve.proofs.Leaving.{searching_both, last_later, closed_last}
 
 -- ---- what is put
-
-pub searching_axioms : (old new : List BookEntry) (left : ℕ) → AddsAxioms old new → IsSearching old new left left
-searching_axioms old new left adds = record {
-  since = map axiomatic adds.axioms;
-  whole = adds.more;
-  unmarked = λ number. none_marked number adds.axioms;
-  paid = (let none = none_learnt adds.axioms in omega (arith, none));
-  fresh = fresh_axioms old adds.axioms;
-}
-
--- neither axioms nor what a search learns are final entries
-pub axioms_no_final : (old new : List BookEntry) → AddsAxioms old new → PutsNoFinal old new
-axioms_no_final old new adds = record { since = map axiomatic adds.axioms; whole = adds.more; none = none_final adds.axioms }
-
-pub learnt_alone : (old mid new : List BookEntry) → AddsAxioms old mid → HasLearnt mid new → PutsNoFinal old new
-learnt_alone old mid new adds put = record {
-  since = map axiomatic adds.axioms ++ put.since;
-  whole = put.whole ∙ ap (λ b. b ++ put.since) adds.more ∙ append_assoc old (map axiomatic adds.axioms) put.since;
-  none = none_joined (map axiomatic adds.axioms) put.since (none_final adds.axioms) (learnt_no_final put.since put.all_learnt);
-}
-
-pub both_whole : (old mid new : List BookEntry) (before after : ℕ) → (adds : AddsAxioms old mid) → (searched : IsSearched mid new before after) → new ≡ old ++ (map axiomatic adds.axioms ++ searched.since)
-both_whole old mid new before after adds searched = searched.whole ∙ ap (λ b. b ++ searched.since) adds.more ∙ append_assoc old (map axiomatic adds.axioms) searched.since
-
-pub both_unmarked : (old mid new : List BookEntry) (before after : ℕ) → (adds : AddsAxioms old mid) → (searched : IsSearched mid new before after) → (number : ℕ) → count_by (is_mark number) (map axiomatic adds.axioms ++ searched.since) ≡ 0
-both_unmarked old mid new before after adds searched number =
-    let count = count_append (is_mark number) (map axiomatic adds.axioms) searched.since in
-    let one = none_marked number adds.axioms in
-    let two = derived_unmarked number searched.since searched.derived in
-    omega (arith, count, one, two)
-
-pub both_paid : (old mid new : List BookEntry) (before after : ℕ) → (adds : AddsAxioms old mid) → (searched : IsSearched mid new before after) → count_by is_learnt (map axiomatic adds.axioms ++ searched.since) + after ≡ before
-both_paid old mid new before after adds searched =
-    let count = count_append is_learnt (map axiomatic adds.axioms) searched.since in
-    let none = none_learnt adds.axioms in
-    omega (arith, count, none, searched.number, searched.paid)
-
-abbrev pub searching_both : (old mid new : List BookEntry) (before after : ℕ) → AddsAxioms old mid → IsSearched mid new before after → HasAxiomVars mid → IsSearching old new before after
-searching_both old mid new before after adds searched known = record {
-  since = map axiomatic adds.axioms ++ searched.since;
-  whole = both_whole old mid new before after adds searched;
-  unmarked = both_unmarked old mid new before after adds searched;
-  paid = both_paid old mid new before after adds searched;
-  fresh = fresh_after old mid new before after adds searched known;
-}
 
 -- the parts stay ready where their solver has searched
 pub goes_by_search : {R : Type 0} (may : R → ℕ → Type 0) (gives : R → ℕ → ℕ → Type 0) (old parts : Parts R) (solver : SolverState R) (before after : ℕ) (book mid new : List BookEntry) → AreReady may gives parts mid → KeepsQuestion old parts book mid → AddsAxioms book mid → IsSearched mid new before after → solver.adopted ≡ clauses_of new →
@@ -251,19 +205,11 @@ module _ (steps : CodedSteps) (code : CodedLog) (counter : CounterState) (vars :
       assumed = assumed;
       assumptions = assumptions;
       refuted = record {
-        refuted = record {
-          earlier = map axiomatic adds.axioms ++ closed.before;
-          clause = closed.clause;
-          hints = closed.hints;
-          later = [];
-          whole = closes;
-          last = refl;
-          negates = last.negates;
-        };
+        refuted = last_later (map axiomatic adds.axioms) searched.since assumed (closed_last searched.since assumed closed last.negates);
         listed = before_it ∙ listed;
         known = all_append (HasValues most) begun.axioms (clauses_of (earlier ++ final closed.clause closed.hints ∷ []))
             (all_split (HasValues most) begun.axioms (axioms_of earlier) (subst (AllByRecursion (HasValues most)) (sym before_it) axioms_known)).0
-            (known_back most old (earlier ++ final closed.clause closed.hints ∷ []) (subst (λ es. AllByRecursion (HasValues most) (clauses_of es)) (both_whole old mid new before after adds searched ∙ ap (λ es. old ++ es) closes) all_known));
+            (known_back most old (earlier ++ final closed.clause closed.hints ∷ []) (subst (λ es. AllByRecursion (HasValues most) (clauses_of es)) ((searching_both old mid new before after adds searched known).whole ∙ ap (λ es. old ++ es) closes) all_known));
         known_assumed = subst (λ n. HasValues n assumed) counted (assumed_below steps code counter vars (axioms_of mid) (axioms_of mid) assumed steps.net log steps.steps bound parts posed);
         faithful = subst (λ axioms. IsFaithful axioms assumed net log steps.steps bound) (sym before_it) faithful;
       };

@@ -12,12 +12,10 @@ use Rattle.least_faults.specs.declared.parts.Parts.{Parts}
 use Rattle.des_net.specs.Network.{Net}
 use Rattle.question_clauses.proofs.Lists.{all_at}
 use Rattle.question_clauses.specs.LogClauses.{guard_literals}
-use Rattle.log_encode.proofs.CodeLemmas.{beside}
 use Rattle.log_encode.specs.CodedLog.{CodedLog, IsCodedLog, read_meanings}
 use Rattle.log_encode.specs.Drafted.{LogCodeState}
 use Rattle.log_order.specs.Log.{Log}
 use Rattle.prop_core.proofs.FamilyLemmas.{reads_whole}
-use Rattle.prop_core.proofs.Listed.{clause_written}
 use Rattle.prop_core.proofs.Literals.{same_is, not_self, negation_twice}
 use Rattle.prop_core.specs.Clauses.{Clause, HasValues, is_true, is_false, negation, same_literal, AreConsistent}
 use Rattle.prop_core.specs.Listings.{literal_by}
@@ -27,6 +25,7 @@ use Rattle.run_decode.specs.WholeNaming.{whole_meanings}
 use Rattle.std.proofs.Math.ListN.{get_or-append}
 use Rattle.step_encode.specs.Coded.{CodedSteps}
 use Rattle.sat_solve.proofs.Entries.{true_there}
+use Rattle.log_encode.proofs.Guards.{guards_listed}
 
 pub assumed_below : (steps : CodedSteps) (code : CodedLog) (counter : CounterState) (vars : ℕ) (axioms clauses : List Clause) (assumed : List Lit) (net : Net) (log : Log) (n : ℕ) (bound : Option ℕ) →
     AreParts steps code counter vars axioms → IsPosed (whole_meanings steps code counter) clauses assumed net log n bound → HasValues vars assumed
@@ -68,9 +67,6 @@ with_bound code counter k columns guards literal assumed read there is whole =
     record { guards = guards; read = read; whole = whole ∙ ap (λ l. guards ++ l ∷ []) is; column = omega (arith, there) }
 
 -- ---- both in their order
-
-guards_listed : (code : CodedLog) (guards : List Lit) → IsCodedLog code → named_clause (read_meanings code) guards ≡ Some (guard_literals code.net code.log) → guards ≡ map (literal_by (read_meanings code)) (guard_literals code.net code.log)
-guards_listed code guards whole listed = clause_written (read_meanings code) (beside code whole).once guards (guard_literals code.net code.log) listed
 
 pub assumed_alone : {R : Type 0} (parts : Parts R) (guards assumed : List Lit) → IsCodedLog parts.code.coded → named_clause (read_meanings parts.code.coded) guards ≡ Some (guard_literals parts.code.coded.net parts.code.coded.log) → assumed ≡ guards →
     AreAssumed parts.counter parts None assumed

@@ -2,10 +2,11 @@
 use Rattle.std.proofs.Common.{◌≡◌, ◌∙◌, ℕ, zero, suc, List, [], ◌∷◌, ◌++◌, length, map, take, refl, sym, ap}
 use Rattle.std.proofs.lemmas.List.{append_assoc, append-nil, map-append}
 use Rattle.des_base.proofs.Elements.{take_whole}
-use Rattle.least_faults.specs.Growing.{AddsAxioms, HasFrontOf}
+use Rattle.least_faults.specs.Growing.{HasFrontOf}
 use Rattle.proof_ledger.specs.Book.{BookEntry, axiomatic, axioms_of, clauses_of}
 use Rattle.prop_core.specs.Clauses.{Clause}
 use Rattle.proof_ledger.proofs.AxiomLists.{axioms_added, clauses_added}
+use Rattle.sat_solve.specs.Leaving.{AddsAxioms}
 
 -- ---- what the book then has
 

@@ -7,7 +7,7 @@ use Rattle.least_faults.proofs.Below.{room_of}
 use Rattle.least_faults.proofs.Columns.{parts_grow, room_grows}
 use Rattle.least_faults.proofs.ColumnsBuilt.{columns_counted}
 use Rattle.least_faults.specs.Columns.{columns_built}
-use Rattle.least_faults.specs.Growing.{AddsAxioms, KeepsQuestion}
+use Rattle.least_faults.specs.Growing.{KeepsQuestion}
 use Rattle.least_faults.specs.Parts.{AreParts, AreReady, AreReadyBeside, HaveRoom, built_of}
 use Rattle.least_faults.specs.declared.parts.Parts.{Parts}
 use Rattle.proof_ledger.specs.Book.{BookEntry, axioms_of}
@@ -16,6 +16,7 @@ use Rattle.run_decode.proofs.WholeClauses.{clauses_grow}
 use Rattle.run_decode.specs.QuestionAxioms.{BuiltQuestion}
 use Rattle.run_decode.specs.WholeNaming.{AreClausesOf}
 use Rattle.proof_ledger.proofs.AxiomLists.{axioms_added}
+use Rattle.sat_solve.specs.Leaving.{AddsAxioms}
 
 -- ---- what a question is with further columns
 

@@ -1,5 +1,5 @@
 -- The search upwards from 0, bound by bound.
-use Rattle.std.proofs.Common.{◌≡◌, ◌≢◌, ◌∙◌, ℕ, suc, ◌+◌, ◌<◌, ◌≤◌, true, false, ◌⊎◌, inl, inr, List, [], ◌∷◌, ◌++◌, Option, None, Some, refl, sym, ap, subst, arith, Contains, count_by, append-nil, append_assoc}
+use Rattle.std.proofs.Common.{◌≡◌, ◌≢◌, ◌∙◌, ℕ, suc, ◌+◌, ◌<◌, ◌≤◌, true, false, ◌⊎◌, List, [], ◌∷◌, ◌++◌, Option, None, Some, refl, sym, ap, subst, arith, Contains, count_by, append_assoc}
 use Rattle.std.proofs.lemmas.List.Elements.{filter_map-append}
 use Rattle.std.specs.List.{AllByRecursion, list_any, list_all}
 use Rattle.card_counter.specs.CounterState.{CounterState}
@@ -7,10 +7,9 @@ use Rattle.des_base.proofs.Elements.{none_in_nil, all_split}
 use Rattle.des_net.specs.Network.{Net, IsNetwork}
 use Rattle.least_faults.proofs.Assuming.{assumptions_stay}
 use Rattle.least_faults.proofs.Entailing.{final_entailed}
-use Rattle.least_faults.proofs.Freshness.{fresh_none, fresh_both}
 use Rattle.least_faults.proofs.KnownVariables.{known_back, known_front}
 use Rattle.least_faults.proofs.Posing.{poses}
-use Rattle.least_faults.proofs.Putting.{last_later, last_earlier}
+use Rattle.least_faults.proofs.Putting.{refutation_before, refutation_behind}
 use Rattle.least_faults.proofs.Telling.{tells_bound}
 use Rattle.answers.specs.declared.found.Best.{Best}
 use Rattle.answers.specs.declared.found.Found.{Found}
@@ -19,15 +18,15 @@ use Rattle.least_faults.specs.declared.asking.Asked.{Asked}
 use Rattle.least_faults.specs.declared.asking.Asked.TheVariants as asked
 use Rattle.answers.specs.Explanations.{IsExplanation}
 use Rattle.least_faults.specs.Answers.{HasConflict, HasConflictFor, IsFound, IsLeastFound, IsAbsentFound, IsManyFound, IsUndecidedFound}
-use Rattle.least_faults.specs.Ascending.{FinalsAreBelow, IsRefutedAt, HasComeToBy, HasFound, HasRefused}
-use Rattle.least_faults.specs.Asking.{AreAssumptions, ArePut, IsSearching, HasAskedBy, IsRefusal, IsStopped}
+use Rattle.least_faults.specs.Ascending.{IsRefutedAt, HasComeToBy, HasFound, HasRefused, NegatesBelow}
+use Rattle.least_faults.specs.Asking.{AreAssumptions, ArePut, HasAskedBy, IsRefusal, IsStopped}
 use Rattle.least_faults.specs.Columns.{built_within}
-use Rattle.least_faults.specs.Evidence.{FinalsNegate, is_final, IsEvidence, IsPosed, IsRefutation, NegatesAssumed}
+use Rattle.least_faults.specs.Evidence.{is_final, IsEvidence, IsPosed, IsRefutation, NegatesAssumed}
 use Rattle.least_faults.specs.Growing.{KeepsColumns}
 use Rattle.least_faults.specs.Parts.{AreParts}
 use Rattle.log_encode.specs.CodedLog.{CodedLog, without_names}
 use Rattle.log_order.specs.Log.{Log, IsValidLog}
-use Rattle.proof_ledger.specs.Book.{BookEntry, final, axiom_of, axioms_of, clauses_of, is_mark, IsValidBook}
+use Rattle.proof_ledger.specs.Book.{BookEntry, final, axiom_of, axioms_of, clauses_of, IsValidBook}
 use Rattle.proof_ledger.specs.Fresh.{is_learnt}
 use Rattle.prop_core.specs.Clauses.{Clause, HasValues, NegatesOnly}
 use Rattle.prop_core.specs.VariableNames.{Meaning}
@@ -36,10 +35,11 @@ use Rattle.replay.specs.Explanation.{IsExplained, NeedsFaults}
 use Rattle.run_decode.specs.Drawn.{IsInstance}
 use Rattle.run_decode.specs.QuestionAxioms.{BuiltQuestion}
 use Rattle.run_decode.specs.WholeNaming.{whole_meanings}
-use Rattle.std.proofs.lemmas.List.Elements.{Contains-append_cases as append_cases, Contains-append_right as append_right}
-use Rattle.run_decode.proofs.Faults.{count_append}
+use Rattle.std.proofs.lemmas.List.Elements.{Contains-append_right as append_right}
 use Rattle.step_encode.specs.Coded.{CodedSteps}
-use Rattle.sat_solve.proofs.Entries.{learnt_no_final, no_final_in, none_counted}
+use Rattle.sat_solve.proofs.Entries.{learnt_no_final, no_final_in, counted_both}
+use Rattle.sat_solve.specs.Leaving.{IsSearching, EachFinal, PutsNoFinal}
+use Rattle.sat_solve.proofs.Leaving.{each_both, each_none, no_more, searching_none, searching_further, leaves_searched, finals_before}
 
 pub as_explained : (net : Net) (log : Log) (n : ℕ) (best : Best) → IsExplanation net log n best → IsExplained net log n best.faults
 as_explained net log n best given = record { word = _; order = _; explains = given.explains; faults = given.faults }
@@ -56,18 +56,6 @@ explained_not best is = cc
 pub spent_not : asked.Spent ≢ asked.Refuted
 spent_not is = cc
 
-abbrev pub searching_none : (book : List BookEntry) (left : ℕ) → IsSearching book book left left
-searching_none book left = record { since = []; whole = sym (append-nil book); unmarked = λ number. refl; paid = omega arith; fresh = fresh_none book }
-
-abbrev pub searching_further : (first mid last : List BookEntry) (budget before after : ℕ) → IsSearching first mid budget before → IsSearching mid last before after → IsSearching first last budget after
-searching_further first mid last budget before after one two = record {
-  since = one.since ++ two.since;
-  whole = two.whole ∙ ap (λ b. b ++ two.since) one.whole ∙ append_assoc first one.since two.since;
-  unmarked = λ number. count_append (is_mark number) one.since two.since ∙ (let a = one.unmarked number in let b = two.unmarked number in omega (arith, a, b));
-  paid = (let count = count_append is_learnt one.since two.since in omega (arith, count, one.paid, two.paid));
-  fresh = fresh_both first mid one.since two.since one.whole one.fresh two.fresh;
-}
-
 pub come_to_none : (code : CodedLog) (counter : CounterState) (begun : BuiltQuestion) (net : Net) (log : Log) (n : ℕ) (book : List BookEntry) (left : ℕ) → HasComeToBy code counter begun net log n 0 book book left left
 come_to_none code counter begun net log n book left = record {
   searching = searching_none book left;
@@ -77,33 +65,27 @@ come_to_none code counter begun net log n book left = record {
   needs = λ word order explains. omega arith;
 }
 
-finals_further : (code : CodedLog) (old new : CounterState) (k : ℕ) (since more : List BookEntry) → KeepsColumns old new → FinalsAreBelow code old k since →
-    ((clause : Clause) (hints : List ℕ) → Contains more (final clause hints) → (assumed : List Lit) × AreAssumptions code new (Some k) assumed × NegatesOnly assumed clause) → FinalsAreBelow code new (suc k) (since ++ more)
-finals_further code old new k since more keeps finals here clause hints in' = by (append_cases since more (final clause hints) in')
-  where
-    by : Contains since (final clause hints) ⊎ Contains more (final clause hints) → (j : ℕ) × (j < suc k) × (assumed : List Lit) × AreAssumptions code new (Some j) assumed × NegatesOnly assumed clause
-    by (inl before) = let found = finals clause hints before in (found.0, omega (arith, found.1), found.2, assumptions_stay code old new (Some found.0) found.2 keeps found.3, found.4)
-    by (inr now) = let found = here clause hints now in (k, omega arith, found.0, found.1, found.2)
+-- they are still assumptions where the counter has got columns
+negates_still : (code : CodedLog) (old new : CounterState) (k later : ℕ) (since : List BookEntry) → KeepsColumns old new → k ≤ later → EachFinal (NegatesBelow code old k) since → EachFinal (NegatesBelow code new later) since
+negates_still code old new k later since keeps within finals clause hints in' =
+    let found = finals clause hints in' in (found.0, (let low = found.1 in omega (arith, low, within)), found.2, assumptions_stay code old new (Some found.0) found.2 keeps found.3, found.4)
 
--- without a final entry
-finals_same : (code : CodedLog) (old new : CounterState) (k : ℕ) (since more : List BookEntry) → KeepsColumns old new → list_any is_final more ≡ false → FinalsAreBelow code old k since → FinalsAreBelow code new k (since ++ more)
-finals_same code old new k since more keeps none finals clause hints in' = by (append_cases since more (final clause hints) in')
-  where
-    by : Contains since (final clause hints) ⊎ Contains more (final clause hints) → (j : ℕ) × (j < k) × (assumed : List Lit) × AreAssumptions code new (Some j) assumed × NegatesOnly assumed clause
-    by (inl before) = let found = finals clause hints before in (found.0, found.1, found.2, assumptions_stay code old new (Some found.0) found.2 keeps found.3, found.4)
-    by (inr now) = absurd (no_final_in more clause hints none now)
+-- without a further one
+finals_same : (code : CodedLog) (old new : CounterState) (k : ℕ) (since more : List BookEntry) → KeepsColumns old new → list_any is_final more ≡ false → EachFinal (NegatesBelow code old k) since → EachFinal (NegatesBelow code new k) (since ++ more)
+finals_same code old new k since more keeps none finals = each_both (NegatesBelow code new k) since more (negates_still code old new k k since keeps (omega arith) finals) (each_none (NegatesBelow code new k) more none)
 
 pub come_further : (code : CodedLog) (old new : CounterState) (begun now : BuiltQuestion) (net : Net) (log : Log) (n k : ℕ) (first mid last : List BookEntry) (budget before after : ℕ) → KeepsColumns old new →
     begun.axioms ≡ axioms_of first → now.axioms ≡ axioms_of mid → built_within now (Some k) ≡ built_within begun (Some k) →
     HasComeToBy code old begun net log n k first mid budget before → HasAskedBy code new now net log n (Some k) mid last before after asked.Refuted → HasComeToBy code new begun net log n (suc k) first last budget after
 come_further code old new begun now net log n k first mid last budget before after keeps at_first at_mid same_within come asked' = record {
   searching = searching_further first mid last budget before after come.searching asked'.searching;
-  finals = finals_further code old new k come.searching.since asked'.searching.since keeps come.finals asked'.put.finals;
-  few = (let all = count_append is_final come.searching.since asked'.searching.since in omega (arith, all, come.few, asked'.put.few));
+  finals = each_both (NegatesBelow code new (suc k)) come.searching.since asked'.searching.since (negates_still code old new k (suc k) come.searching.since keeps (omega arith) come.finals)
+      (λ clause hints in'. let found = asked'.put.finals clause hints in' in (k, omega arith, found.0, found.1, found.2));
+  few = (let all = counted_both is_final come.searching.since asked'.searching.since in omega (arith, all, come.few, asked'.put.few));
   below = λ j is. (let same : k ≡ j = omega (arith, is) in subst (λ i. IsRefutedAt code new net log n i begun (come.searching.since ++ asked'.searching.since)) same (record {
     assumed = asked'.means.assumed;
     assumptions = asked'.means.assumptions;
-    refuted = last_earlier begun now first mid come.searching.since asked'.searching.since net log n (Some k) asked'.means.assumed at_first at_mid same_within front_known come.searching.whole asked'.means.refuted;
+    refuted = refutation_behind begun now first mid come.searching.since asked'.searching.since net log n (Some k) asked'.means.assumed at_first at_mid same_within front_known come.searching.whole asked'.means.refuted;
   }));
   needs = asked'.means.decided.above;
 }
@@ -112,10 +94,6 @@ come_further code old new begun now net log n k first mid last budget before aft
     front_known = known_back (built_within now (Some k)).vars first come.searching.since
         (subst (λ es. AllByRecursion (HasValues (built_within now (Some k)).vars) (clauses_of es)) come.searching.whole
         (known_front (built_within now (Some k)).vars mid asked'.searching.since (subst (λ es. AllByRecursion (HasValues (built_within now (Some k)).vars) (clauses_of es)) asked'.searching.whole asked'.known)))
-
--- entries without a final one add none
-pub no_more : (most : ℕ) (since more : List BookEntry) → count_by is_final since ≤ most → list_any is_final more ≡ false → count_by is_final (since ++ more) ≤ most
-no_more most since more few none = (let all = count_append is_final since more in let zero = none_counted more none in omega (arith, all, zero, few))
 
 -- the bounds below k stay refuted where nothing more is
 pub come_on : (code : CodedLog) (old new : CounterState) (begun now : BuiltQuestion) (net : Net) (log : Log) (n k : ℕ) (first mid last : List BookEntry) (budget before after : ℕ) (what : Asked) → KeepsColumns old new → what ≢ asked.Refuted →
@@ -127,7 +105,7 @@ come_on code old new begun now net log n k first mid last budget before after wh
   below = λ j is. (let found = come.below j is in record {
     assumed = found.assumed;
     assumptions = assumptions_stay code old new (Some j) found.assumed keeps found.assumptions;
-    refuted = last_later begun come.searching.since asked'.searching.since net log n (Some j) found.assumed (asked'.put.none not) found.refuted;
+    refuted = refutation_before begun come.searching.since asked'.searching.since net log n (Some j) found.assumed (asked'.put.none not) found.refuted;
   });
   needs = come.needs;
 }
@@ -189,7 +167,7 @@ module _ (steps : CodedSteps) (code : CodedLog) (counter : CounterState) (vars :
     evidence = (let found = below 255 refl in evidence (Some 255) found.assumed found.assumptions found.refuted);
   }
 
-  pub undecided_found : (k budget : ℕ) (best : Best) → IsValidBook book → count_by is_learnt since ≡ budget → FinalsAreBelow code counter k since →
+  pub undecided_found : (k budget : ℕ) (best : Best) → IsValidBook book → count_by is_learnt since ≡ budget → EachFinal (NegatesBelow code counter k) since →
       ((j : ℕ) → k ≡ suc j → IsRefutedAt code counter steps.net log steps.steps j begun since) → NeedsFaults steps.net log steps.steps k → IsExplanation steps.net log steps.steps best → k < best.faults →
       IsUndecidedFound (whole_meanings steps code counter) begun since steps.net log steps.steps budget k (Some best)
   undecided_found k budget best whole spent finals below needs given more = record {
@@ -254,26 +232,18 @@ module _ (steps : CodedSteps) (code : CodedLog) (counter : CounterState) (vars :
     negates = negates;
   }
 
-  finals_below : (k : ℕ) (since : List BookEntry) → FinalsAreBelow code counter k since → FinalsNegate (whole_meanings steps code counter) since steps.net log steps.steps
+  abbrev Negates : Clause → Type 0
+  Negates = NegatesAssumed (whole_meanings steps code counter) steps.net log steps.steps
+
+  finals_below : (k : ℕ) (since : List BookEntry) → EachFinal (NegatesBelow code counter k) since → EachFinal Negates since
   finals_below k since finals clause hints there = let found = finals clause hints there in negates_assumed (Some found.0) found.2 clause found.3 found.4
 
-  finals_put : (bound : Option ℕ) (since : List BookEntry) (what : Asked) → ArePut code counter bound since what → FinalsNegate (whole_meanings steps code counter) since steps.net log steps.steps
+  finals_put : (bound : Option ℕ) (since : List BookEntry) (what : Asked) → ArePut code counter bound since what → EachFinal Negates since
   finals_put bound since what put clause hints there = let found = put.finals clause hints there in negates_assumed bound found.0 clause found.1 found.2
 
-  with_found : (left : ℕ) (searching : IsSearching first book budget left) (answer : Found) → FinalsNegate (whole_meanings steps code counter) searching.since steps.net log steps.steps → count_by is_final searching.since ≤ 256 → HasConflictFor (whole_meanings steps code counter) book steps.net log steps.steps answer →
+  with_found : (left : ℕ) (searching : IsSearching first book budget left) (answer : Found) → EachFinal Negates searching.since → count_by is_final searching.since ≤ 256 → HasConflictFor (whole_meanings steps code counter) book steps.net log steps.steps answer →
       IsFound (whole_meanings steps code counter) begun searching.since steps.net log steps.steps budget answer → HasFound (whole_meanings steps code counter) begun net log steps.steps budget first book answer
-  with_found left searching answer finals few conflict is =
-      found_as answer (record {
-        since = searching.since;
-        whole = searching.whole;
-        unmarked = searching.unmarked;
-        within = (let paid = searching.paid in omega (arith, paid));
-        fresh = searching.fresh;
-        finals = finals;
-        finals_few = few;
-        found = is;
-        conflict = conflict;
-      })
+  with_found left searching answer finals few conflict is = found_as answer (record { put = leaves_searched Negates 256 budget left first book searching finals few; found = is; conflict = conflict })
 
   nothing_left : (count left : ℕ) → count + left ≡ budget → left ≡ 0 → count ≡ budget
   nothing_left count left paid none = omega (arith, paid, none)
@@ -311,10 +281,10 @@ module _ (steps : CodedSteps) (code : CodedLog) (counter : CounterState) (vars :
       (nothing_found steps code counter vars log first book asked'.searching.since asked'.searching.whole parts own valid same begun at_first budget (nothing_left (count_by is_learnt asked'.searching.since) left asked'.searching.paid asked'.means.nothing) (asked'.put.unbounded spent_not))
 
   -- if memory runs out at a bound, the final entries are those that refute the bounds below
-  pub refuses : (old : CounterState) (k : ℕ) (since more : List BookEntry) → k ≤ 256 → KeepsColumns old counter → FinalsAreBelow code old k since → count_by is_final since ≤ k → list_any is_final more ≡ false → book ≡ first ++ (since ++ more) → HasRefused (whole_meanings steps code counter) net log steps.steps first book
-  refuses old k since more small keeps finals few none whole = record {
-    since = since ++ more;
-    whole = whole;
-    finals = subst (λ net'. FinalsNegate (whole_meanings steps code counter) (since ++ more) net' log steps.steps) of_net (finals_below k (since ++ more) (finals_same code old counter k since more keeps none finals));
-    few = (let all = no_more k since more few none in omega (arith, all, small));
-  }
+  pub refuses : (old : CounterState) (k left : ℕ) (mid : List BookEntry) → k ≤ 256 → KeepsColumns old counter → HasComeToBy code old begun net log steps.steps k first mid budget left → PutsNoFinal mid book → HasRefused (whole_meanings steps code counter) net log steps.steps first book
+  refuses old k left mid small keeps come quit = subst (λ net'. HasRefused (whole_meanings steps code counter) net' log steps.steps first book) of_net (finals_before Negates 256 first mid book (record {
+    since = come.searching.since;
+    whole = come.searching.whole;
+    finals = finals_below k come.searching.since (negates_still code old counter k k come.searching.since keeps (omega arith) come.finals);
+    few = (let few = come.few in omega (arith, few, small));
+  }) quit)

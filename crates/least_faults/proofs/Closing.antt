@@ -1,25 +1,24 @@
 -- From the entries of a search to those of a whole answer: what came before, and the marks.
-use Rattle.std.proofs.Common.{◌≡◌, ◌∙◌, ℕ, ◌+◌, ◌-◌, true, false, ◌&&◌, ◌⊎◌, inl, inr, List, [], ◌∷◌, ◌++◌, length, Option, None, Some, IfNone, sym, ap, subst, arith, Contains, count_by, append-nil, append_assoc, ◌≤◌, refl}
-use Rattle.std.proofs.lemmas.List.{append_cancel_left}
-use Rattle.std.proofs.lemmas.List.Elements.{filter_map-append, Contains-append_cases as append_cases}
+use Rattle.std.proofs.Common.{◌≡◌, ◌∙◌, ℕ, ◌+◌, ◌-◌, true, ◌&&◌, ◌⊎◌, inr, List, [], ◌∷◌, ◌++◌, length, Option, None, Some, IfNone, sym, ap, subst, arith, count_by, append-nil, append_assoc, ◌≤◌, refl}
+use Rattle.std.proofs.lemmas.List.Elements.{filter_map-append}
 use Rattle.std.proofs.lemmas.List.Folds.{list_all-append}
-use Rattle.std.specs.List.{AllByRecursion, list_all, list_any}
+use Rattle.std.specs.List.{AllByRecursion, list_all}
 use Rattle.des_base.proofs.Elements.{all_append, all_change, all_split}
 use Rattle.des_net.specs.Network.{Net}
 use Rattle.least_faults.proofs.ColumnsBuilt.{vars_grow, within_none}
-use Rattle.least_faults.proofs.Freshness.{fresh_both, fresh_mark, fresh_none, known_same}
+use Rattle.sat_solve.proofs.Freshness.{fresh_both, fresh_mark, fresh_none, known_same}
 use Rattle.least_faults.proofs.KnownVariables.{known_back, known_joined}
 use Rattle.least_faults.proofs.Staying.{kept_by_axioms, with_axioms}
 use Rattle.answers.specs.declared.found.Best.{Best}
 use Rattle.answers.specs.declared.found.Found.{Found}
 use Rattle.answers.specs.declared.found.Found.TheVariants.{Explained, Absent, Many, Undecided}
-use Rattle.least_faults.specs.Answers.{asked_last, HasConflictFor, HaveLearntFresh, IsFound, IsAnswered, IsOpenAtMost}
+use Rattle.least_faults.specs.Answers.{asked_last, HasConflictFor, IsFound, IsAnswered, IsOpenAtMost}
 use Rattle.least_faults.specs.Ascending.{HasFound, HasRefused}
 use Rattle.least_faults.specs.Columns.{built_within, columns_for}
-use Rattle.least_faults.specs.Evidence.{FinalsNegate, HasFinal, IsEvidence, IsPosed, NegatesAssumed, is_final}
+use Rattle.least_faults.specs.Evidence.{IsEvidence, IsPosed, NegatesAssumed}
 use Rattle.least_faults.specs.Parts.{AreParts, AreReady, built_of}
 use Rattle.log_order.specs.Log.{Log}
-use Rattle.proof_ledger.specs.Book.{BookEntry, final, mark, clauses_of, axiom_of, axioms_of, is_mark}
+use Rattle.proof_ledger.specs.Book.{BookEntry, final, mark, clauses_of, axiom_of, axioms_of}
 use Rattle.proof_ledger.specs.Fresh.{is_learnt}
 use Rattle.prop_core.specs.Clauses.{Clause, HasValues}
 use Rattle.prop_core.specs.Trail.{Clashes}
@@ -28,12 +27,12 @@ use Rattle.run_decode.specs.QuestionAxioms.{BuiltQuestion}
 use Rattle.prop_core.specs.VariableNames.{Meaning}
 use Rattle.prop_core.specs.declared.lit.Lit.{Lit}
 use Rattle.least_faults.specs.declared.parts.Parts.{Parts}
-use Rattle.least_faults.specs.Asking.{IsSearching, PutsNoFinal}
+use Rattle.sat_solve.specs.Leaving.{IsSearching}
 use Rattle.least_faults.specs.Growing.{HasGrownWithin, KeepsQuestion}
-use Rattle.run_decode.proofs.Faults.{count_append}
 use Rattle.proof_ledger.proofs.AxiomLists.{marked_axioms, marked_clauses}
 use Rattle.prop_core.proofs.Literals.{wider}
-use Rattle.sat_solve.proofs.Entries.{learnt_no_axioms, learnt_no_final, no_final_in, none_counted}
+use Rattle.sat_solve.proofs.Entries.{learnt_no_axioms, learnt_no_final, counted_both}
+use Rattle.sat_solve.proofs.Leaving.{final_later, last_later, leaves_both, leaves_later, leaves_open, leaves_closed}
 
 -- the axioms are the same where learnt entries came before
 same_front : (first : List Clause) (front entries : List BookEntry) → list_all is_learnt front ≡ true → first ++ axioms_of entries ≡ first ++ axioms_of (front ++ entries)
@@ -43,15 +42,7 @@ evidence_later : (names : List (ℕ × Meaning)) (first : BuiltQuestion) (front 
     IsEvidence names first (front ++ since) net log n bound
 evidence_later names first front since net log n bound all_learnt front_known shown = record {
   assumed = shown.assumed;
-  refuted = record {
-    earlier = front ++ shown.refuted.earlier;
-    clause = shown.refuted.clause;
-    hints = shown.refuted.hints;
-    later = shown.refuted.later;
-    whole = ap (λ xs. front ++ xs) shown.refuted.whole ∙ sym (append_assoc front shown.refuted.earlier (final shown.refuted.clause shown.refuted.hints ∷ shown.refuted.later));
-    last = shown.refuted.last;
-    negates = shown.refuted.negates;
-  };
+  refuted = last_later front since shown.assumed shown.refuted;
   listed = sym (same_front first.axioms front shown.refuted.earlier all_learnt) ∙ shown.listed;
   known = all_append (HasValues most) first.axioms (clauses_of ((front ++ shown.refuted.earlier) ++ last)) both_known.0
       (subst (λ es. AllByRecursion (HasValues most) (clauses_of es)) (sym (append_assoc front shown.refuted.earlier last)) (known_joined most front (shown.refuted.earlier ++ last) grown both_known.1));
@@ -72,21 +63,6 @@ evidence_later names first front since net log n bound all_learnt front_known sh
     grown : AllByRecursion (HasValues most) (clauses_of front)
     grown = all_change (HasValues first.vars) (HasValues most) (clauses_of front) (λ clause low. wider first.vars most clause (vars_grow first (columns_for bound - length first.counter.columns)) low) front_known
 
-final_later : (front since : List BookEntry) (assumed : List Lit) → list_all is_learnt front ≡ true → HasFinal (front ++ since) assumed → HasFinal since assumed
-final_later front since assumed all_learnt has = record { clause = has.clause; hints = has.hints; there = by (append_cases front since (final has.clause has.hints) has.there); negates = has.negates }
-  where
-    by : Contains front (final has.clause has.hints) ⊎ Contains since (final has.clause has.hints) → Contains since (final has.clause has.hints)
-    by (inl here) = absurd (no_final_in front has.clause has.hints (learnt_no_final front all_learnt) here)
-    by (inr here) = here
-
--- learnt entries are no final ones
-finals_later : (names : List (ℕ × Meaning)) (front since : List BookEntry) (net : Net) (log : Log) (n : ℕ) → list_all is_learnt front ≡ true → FinalsNegate names since net log n → FinalsNegate names (front ++ since) net log n
-finals_later names front since net log n all_learnt finals clause hints there = by (append_cases front since (final clause hints) there)
-  where
-    by : Contains front (final clause hints) ⊎ Contains since (final clause hints) → NegatesAssumed names net log n clause
-    by (inl here) = absurd (no_final_in front clause hints (learnt_no_final front all_learnt) here)
-    by (inr here) = finals clause hints here
-
 -- what was found holds too where learnt entries came before
 is_found_later : (names : List (ℕ × Meaning)) (first : BuiltQuestion) (front since : List BookEntry) (net : Net) (log : Log) (n budget left : ℕ) (answer : Found) → list_all is_learnt front ≡ true → AllByRecursion (HasValues first.vars) (clauses_of front) → count_by is_learnt front + left ≡ budget →
     IsFound names first since net log n left answer → IsFound names first (front ++ since) net log n budget answer
@@ -96,10 +72,10 @@ is_found_later names first front since net log n budget left Absent all_learnt k
 is_found_later names first front since net log n budget left (Many best) all_learnt known paid is =
     record { given = is.given; above = is.above; many = is.many; evidence = evidence_later names first front since net log n (Some 255) all_learnt known is.evidence }
 is_found_later names first front since net log n budget left (Undecided lo best) all_learnt known paid is = record {
-  spent = count_append is_learnt front since ∙ (let rest = is.spent in omega (arith, rest, paid));
+  spent = counted_both is_learnt front since ∙ (let rest = is.spent in omega (arith, rest, paid));
   above = is.above;
   evidence = λ b faults. evidence_later names first front since net log n (Some b) all_learnt known (is.evidence b faults);
-  greatest = λ b assumed reads has. is.greatest b assumed reads (final_later front since assumed all_learnt has);
+  greatest = λ b assumed reads has. is.greatest b assumed reads (final_later front since assumed (learnt_no_final front all_learnt) has);
   given = is.given;
   unknown = none best is.unknown;
 }
@@ -108,53 +84,17 @@ is_found_later names first front since net log n budget left (Undecided lo best)
     none None alone = (alone.0, list_all-append is_learnt front since ∙ ap (λ b. b && list_all is_learnt since) all_learnt ∙ alone.1)
     none (Some run) alone = tt
 
-pub found_later : (names : List (ℕ × Meaning)) (begun now : BuiltQuestion) (net : Net) (log : Log) (n budget left : ℕ) (old mid new front : List BookEntry) (answer : Found) → now ≡ begun → AllByRecursion (HasValues (built_within begun None).vars) (clauses_of mid) → mid ≡ old ++ front → ((number : ℕ) → count_by (is_mark number) front ≡ 0) → list_all is_learnt front ≡ true →
-    count_by is_learnt front + left ≡ budget → HasFound names now net log n left mid new answer → HaveLearntFresh old front → HasFound names begun net log n budget old new answer
-found_later names begun now net log n budget left old mid new front answer same mid_known whole unmarked all_learnt paid found fresh = record {
-  since = front ++ found.since;
-  whole = found.whole ∙ ap (λ b. b ++ found.since) whole ∙ append_assoc old front found.since;
-  unmarked = λ number. count_append (is_mark number) front found.since ∙ (let one = unmarked number in let two = found.unmarked number in omega (arith, one, two));
-  within = within (count_by is_learnt front) (count_by is_learnt found.since) (count_by is_learnt (front ++ found.since)) (count_append is_learnt front found.since) found.within refl;
-  fresh = fresh_both old mid front found.since whole fresh found.fresh;
-  finals = finals_later names front found.since net log n all_learnt found.finals;
-  finals_few = (let all = count_append is_final front found.since in let none = none_counted front (learnt_no_final front all_learnt) in omega (arith, all, none, found.finals_few));
+pub found_later : (names : List (ℕ × Meaning)) (begun now : BuiltQuestion) (net : Net) (log : Log) (n budget left : ℕ) (old mid new : List BookEntry) (answer : Found) → now ≡ begun → AllByRecursion (HasValues (built_within begun None).vars) (clauses_of mid) →
+    (searching : IsSearching old mid budget left) → list_all is_learnt searching.since ≡ true → HasFound names now net log n left mid new answer → HasFound names begun net log n budget old new answer
+found_later names begun now net log n budget left old mid new answer same mid_known searching all_learnt found = record {
+  put = leaves_later (NegatesAssumed names net log n) 256 budget left old mid new searching (learnt_no_final searching.since all_learnt) found.put;
   conflict = found.conflict;
-  found = is_found_later names begun front found.since net log n budget left answer all_learnt front_known paid (subst (λ (first : BuiltQuestion). IsFound names first found.since net log n left answer) same found.found);
+  found = is_found_later names begun searching.since found.put.since net log n budget left answer all_learnt front_known searching.paid (subst (λ (first : BuiltQuestion). IsFound names first found.put.since net log n left answer) same found.found);
 }
   where
-    front_known : AllByRecursion (HasValues begun.vars) (clauses_of front)
-    front_known = known_back begun.vars old front
-        (subst (λ es. AllByRecursion (HasValues begun.vars) (clauses_of es)) whole (subst (λ (question : BuiltQuestion). AllByRecursion (HasValues question.vars) (clauses_of mid)) (within_none begun) mid_known))
-
-    within : (one two all : ℕ) → all ≡ one + two → two ≤ left → one ≡ count_by is_learnt front → all ≤ budget
-    within one two all is less count = omega (arith, is, less, count, paid)
-
--- ---- without an answer
-
-pub refused_none : (names : List (ℕ × Meaning)) (net : Net) (log : Log) (n : ℕ) (old new : List BookEntry) → PutsNoFinal old new → HasRefused names net log n old new
-refused_none names net log n old new quit = record {
-  since = quit.since;
-  whole = quit.whole;
-  finals = λ clause hints there. absurd (no_final_in quit.since clause hints quit.none there);
-  few = (let none = none_counted quit.since quit.none in omega (arith, none));
-}
-
--- entries without a final one before
-pub refused_later : (names : List (ℕ × Meaning)) (net : Net) (log : Log) (n : ℕ) (old mid new front : List BookEntry) → mid ≡ old ++ front → list_any is_final front ≡ false → HasRefused names net log n mid new → HasRefused names net log n old new
-refused_later names net log n old mid new front whole none refused = record {
-  since = front ++ refused.since;
-  whole = refused.whole ∙ ap (λ b. b ++ refused.since) whole ∙ append_assoc old front refused.since;
-  finals = λ clause hints there. by clause hints (append_cases front refused.since (final clause hints) there);
-  few = (let all = count_append is_final front refused.since in let zero = none_counted front none in omega (arith, all, zero, refused.few));
-}
-  where
-    by : (clause : Clause) (hints : List ℕ) → Contains front (final clause hints) ⊎ Contains refused.since (final clause hints) → NegatesAssumed names net log n clause
-    by clause hints (inl here) = absurd (no_final_in front clause hints none here)
-    by clause hints (inr here) = refused.finals clause hints here
-
--- what was put is that of a search that has found something
-pub refused_by : (names : List (ℕ × Meaning)) (first : BuiltQuestion) (net : Net) (log : Log) (n budget : ℕ) (old new : List BookEntry) (answer : Found) → HasFound names first net log n budget old new answer → HasRefused names net log n old new
-refused_by names first net log n budget old new answer found = record { since = found.since; whole = found.whole; finals = found.finals; few = found.finals_few }
+    front_known : AllByRecursion (HasValues begun.vars) (clauses_of searching.since)
+    front_known = known_back begun.vars old searching.since
+        (subst (λ es. AllByRecursion (HasValues begun.vars) (clauses_of es)) searching.whole (subst (λ (question : BuiltQuestion). AllByRecursion (HasValues question.vars) (clauses_of mid)) (within_none begun) mid_known))
 
 -- ---- marks
 
@@ -186,7 +126,7 @@ pub grown_opened : (budget left : ℕ) (old opened searched : List BookEntry) �
 grown_opened budget left old opened searched begins searching = record {
   since = mark 0 ∷ searching.since;
   whole = searching.whole ∙ ap (λ b. b ++ searching.since) begins ∙ append_assoc old (mark 0 ∷ []) searching.since;
-  within = (let paid = searching.paid in let one = count_append is_learnt (mark 0 ∷ []) searching.since in omega (arith, paid, one));
+  within = (let paid = searching.paid in let one = counted_both is_learnt (mark 0 ∷ []) searching.since in omega (arith, paid, one));
   fresh = fresh_both old opened (mark 0 ∷ []) searching.since begins (fresh_mark old 0) searching.fresh;
 }
 
@@ -194,7 +134,7 @@ pub grown_closed : (budget : ℕ) (old searched new : List BookEntry) → new �
 grown_closed budget old searched new ends grown = record {
   since = grown.since ++ mark 1 ∷ [];
   whole = ends ∙ ap (λ b. b ++ mark 1 ∷ []) grown.whole ∙ append_assoc old grown.since (mark 1 ∷ []);
-  within = (let less = grown.within in let more = count_append is_learnt grown.since (mark 1 ∷ []) in omega (arith, less, more));
+  within = (let less = grown.within in let more = counted_both is_learnt grown.since (mark 1 ∷ []) in omega (arith, less, more));
   fresh = fresh_both old searched grown.since (mark 1 ∷ []) grown.whole grown.fresh (fresh_mark searched 1);
 }
 
@@ -214,33 +154,18 @@ pub answered : (names : List (ℕ × Meaning)) (begun now : BuiltQuestion) (net 
     length names ≤ variable_bound net log n → ((assumed : List Lit) × IsPosed names (axioms_of searched) assumed net log n None) → HasFound names now net log n budget opened searched answer → IsAnswered names begun net log n budget old new answer
 answered names begun now net log n budget old opened searched new answer at_first same begins ends few asks found = record {
   begun = at_first;
-  since = found.since;
-  whole = ends ∙ ap (λ b. b ++ mark 1 ∷ []) (found.whole ∙ ap (λ b. b ++ found.since) begins ∙ append_assoc old (mark 0 ∷ []) found.since);
-  unmarked = found.unmarked;
-  within = found.within;
-  fresh = subst (λ earlier. HaveLearntFresh earlier found.since) begins found.fresh;
-  finals = found.finals;
-  finals_few = found.finals_few;
+  left = leaves_closed (NegatesAssumed names net log n) (NegatesAssumed names net log n) 256 budget old opened searched new begins ends (λ clause negates. negates) found.put;
   few = few;
   conflict = conflict_closed names searched new 1 net log n answer ends found.conflict;
   asks = (asks.0, subst (λ axioms. IsPosed names axioms asks.0 net log n None) (sym (ap axioms_of ends ∙ marked_axioms searched 1)) asks.1);
-  found = subst (λ (first : BuiltQuestion). IsFound names first found.since net log n budget answer) same found.found;
+  found = subst (λ (first : BuiltQuestion). IsFound names first found.put.since net log n budget answer) same found.found;
 }
 
 -- a search behind the opening mark that has no answer leaves the question open
 pub left_open : (names : List (ℕ × Meaning)) (net : Net) (log : Log) (n budget left : ℕ) (old opened searched : List BookEntry) → opened ≡ old ++ mark 0 ∷ [] → length names ≤ variable_bound net log n → ((assumed : List Lit) × IsPosed names (axioms_of searched) assumed net log n None) →
     IsSearching opened searched budget left → HasRefused names net log n opened searched → IsOpenAtMost names net log n budget old searched
 left_open names net log n budget left old opened searched begins few asks searching refused = inr (record {
-  since = searching.since;
-  whole = searching.whole ∙ ap (λ b. b ++ searching.since) begins ∙ append_assoc old (mark 0 ∷ []) searching.since;
-  unmarked = searching.unmarked;
-  within = (let paid = searching.paid in omega (arith, paid));
-  fresh = subst (λ earlier. HaveLearntFresh earlier searching.since) begins searching.fresh;
-  finals = subst (λ entries. FinalsNegate names entries net log n) same refused.finals;
-  finals_few = subst (λ entries. count_by is_final entries ≤ 256) same refused.few;
+  left = leaves_open (NegatesAssumed names net log n) 256 budget old opened searched begins (leaves_both (NegatesAssumed names net log n) 256 budget left opened searched searching refused);
   few = few;
   asks = asks;
 })
-  where
-    same : refused.since ≡ searching.since
-    same = append_cancel_left opened refused.since searching.since (sym refused.whole ∙ searching.whole)

@@ -9,7 +9,7 @@ use Rattle.des_base.proofs.Elements.{all_change, all_from}
 use Rattle.least_faults.proofs.Below.{counter_below}
 use Rattle.least_faults.proofs.Bounded.{bounded_column, one_less}
 use Rattle.least_faults.proofs.FewClauses.{AreFew, few_in_column}
-use Rattle.least_faults.specs.Growing.{KeepsColumns, AddsAxioms}
+use Rattle.least_faults.specs.Growing.{KeepsColumns}
 use Rattle.des_base.specs.declared.TheConstants.{MOST_COLUMNS, VAR_LIMIT}
 use Rattle.least_faults.specs.Parts.{AreParts, AreReadyBeside, HaveRoom}
 use Rattle.log_encode.specs.CodedLog.{CodedLog}
@@ -24,6 +24,7 @@ use Rattle.least_faults.specs.declared.parts.Parts.{Parts}
 use Rattle.sat_order.specs.Rank.{IsRanked}
 use Rattle.sat_solve.specs.Solving.{SolverState}
 use Rattle.proof_ledger.proofs.AxiomLists.{clauses_added}
+use Rattle.sat_solve.specs.Leaving.{AddsAxioms}
 
 -- ---- columns that are added to a counter
 

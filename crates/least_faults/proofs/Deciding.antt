@@ -61,11 +61,11 @@ instances_known names net log n (clause ∷ clauses) instances var there = by (h
 
 pub undecided_is_small : UndecidedIsSmall
 undecided_is_small names first net log n budget lo best old new answered =
-    let since = answered.since in
-    let same = ap axioms_of answered.whole ∙ axioms_between old since in
+    let since = answered.left.since in
+    let same = ap axioms_of answered.left.whole ∙ axioms_between old since in
     let known = λ (var : ℕ) (there : occurs var ((old ++ mark 0 ∷ []) ++ since) ≡ true).
     instances_known names net log n (axioms_of new) answered.asks.1.instances var (ap (list_any (has_var var)) same ∙ there) in
-    let below = fresh_below (variables_of names) (old ++ mark 0 ∷ []) since (count_by is_learnt since) known answered.fresh in
+    let below = fresh_below (variables_of names) (old ++ mark 0 ∷ []) since (count_by is_learnt since) known answered.left.fresh in
     let count = length-map names (λ (entry : ℕ × Meaning). entry.0) in
     let power = ap (λ k. 3 ^ k) count in
     let most = pow-le-pow_right {n = 3} (omega arith) answered.few in

@@ -15,7 +15,6 @@ pub mod CodeFor
 mod Drafts
 mod Reserving
 mod Determined
-pub mod Freshness
 pub mod Entailing
 pub mod KnownEvents
 mod KnownVariables

@@ -14,7 +14,8 @@ use Rattle.des_net.specs.Network.{Net}
 use Rattle.log_order.specs.Log.{Log}
 use Rattle.run_decode.specs.Faithful.{IsFaithful}
 use Rattle.run_decode.specs.QuestionAxioms.{BuiltQuestion}
-use Rattle.sat_solve.proofs.Entries.{learnt_no_axioms, none_joined}
+use Rattle.sat_solve.proofs.Entries.{learnt_no_axioms}
+use Rattle.sat_solve.proofs.Leaving.{last_before, last_later}
 
 -- ---- axioms
 
@@ -30,18 +31,10 @@ axioms_with_learnt first mid front learnt' whole all_learnt = sym (axioms_furthe
 
 -- ---- the last final entry
 
-pub last_later : (first : BuiltQuestion) (since more : List BookEntry) (net : Net) (log : Log) (n : ℕ) (bound : Option ℕ) (assumed : List Lit) → list_any is_final more ≡ false → IsRefutation first since net log n bound assumed →
+pub refutation_before : (first : BuiltQuestion) (since more : List BookEntry) (net : Net) (log : Log) (n : ℕ) (bound : Option ℕ) (assumed : List Lit) → list_any is_final more ≡ false → IsRefutation first since net log n bound assumed →
     IsRefutation first (since ++ more) net log n bound assumed
-last_later first since more net log n bound assumed none last = record {
-  refuted = record {
-    earlier = last.refuted.earlier;
-    clause = last.refuted.clause;
-    hints = last.refuted.hints;
-    later = last.refuted.later ++ more;
-    whole = ap (λ xs. xs ++ more) last.refuted.whole ∙ append_assoc last.refuted.earlier (final last.refuted.clause last.refuted.hints ∷ last.refuted.later) more;
-    last = none_joined last.refuted.later more last.refuted.last none;
-    negates = last.refuted.negates;
-  };
+refutation_before first since more net log n bound assumed none last = record {
+  refuted = last_before since more assumed none last.refuted;
   listed = last.listed;
   known = last.known;
   known_assumed = last.known_assumed;
@@ -49,18 +42,10 @@ last_later first since more net log n bound assumed none last = record {
 }
 
 -- the same since an earlier moment, from which to this one the question got columns that the bound needs, and nothing else
-pub last_earlier : (begun now : BuiltQuestion) (first mid front since : List BookEntry) (net : Net) (log : Log) (n : ℕ) (bound : Option ℕ) (assumed : List Lit) → begun.axioms ≡ axioms_of first → now.axioms ≡ axioms_of mid →
+pub refutation_behind : (begun now : BuiltQuestion) (first mid front since : List BookEntry) (net : Net) (log : Log) (n : ℕ) (bound : Option ℕ) (assumed : List Lit) → begun.axioms ≡ axioms_of first → now.axioms ≡ axioms_of mid →
     built_within now bound ≡ built_within begun bound → AllByRecursion (HasValues (built_within now bound).vars) (clauses_of front) → mid ≡ first ++ front → IsRefutation now since net log n bound assumed → IsRefutation begun (front ++ since) net log n bound assumed
-last_earlier begun now first mid front since net log n bound assumed at_first at_mid same front_known whole last = record {
-  refuted = record {
-    earlier = front ++ last.refuted.earlier;
-    clause = last.refuted.clause;
-    hints = last.refuted.hints;
-    later = last.refuted.later;
-    whole = ap (λ xs. front ++ xs) last.refuted.whole ∙ sym (append_assoc front last.refuted.earlier (final last.refuted.clause last.refuted.hints ∷ last.refuted.later));
-    last = last.refuted.last;
-    negates = last.refuted.negates;
-  };
+refutation_behind begun now first mid front since net log n bound assumed at_first at_mid same front_known whole last = record {
+  refuted = last_later front since assumed last.refuted;
   listed = sym further ∙ last.listed ∙ ap (λ (question : BuiltQuestion). question.axioms) same;
   known = subst (λ (question : BuiltQuestion). AllByRecursion (HasValues question.vars) (begun.axioms ++ clauses_of ((front ++ last.refuted.earlier) ++ final last.refuted.clause last.refuted.hints ∷ []))) same
       (all_append (HasValues vars) begun.axioms (clauses_of ((front ++ last.refuted.earlier) ++ final last.refuted.clause last.refuted.hints ∷ [])) first_known

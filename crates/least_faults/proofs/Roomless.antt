@@ -89,15 +89,9 @@ pub answered_roomless : (names : List (ℕ × Meaning)) (first : BuiltQuestion) 
     IsAnswered names (roomless first) net log n budget old new answer
 answered_roomless names first net log n budget old new answer is = record {
   begun = is.begun;
-  since = is.since;
-  whole = is.whole;
-  unmarked = is.unmarked;
-  within = is.within;
-  fresh = is.fresh;
-  finals = is.finals;
-  finals_few = is.finals_few;
+  left = is.left;
   few = is.few;
   asks = is.asks;
-  found = found_roomless names first is.since net log n budget answer is.found;
+  found = found_roomless names first is.left.since net log n budget answer is.found;
   conflict = is.conflict;
 }

@@ -3,7 +3,7 @@ use Rattle.std.proofs.Common.{◌≡◌, ◌∙◌, ℕ, List, Option, IfNone, I
 use Rattle.card_counter.specs.Counting.{true_count}
 use Rattle.card_counter.specs.CounterState.{CounterState}
 use Rattle.des_net.specs.Network.{Net, IsNetwork}
-use Rattle.least_faults.proofs.Asked.{asked_explained, asked_refuted, asked_spent, begun_true, learnt_alone, none_added, true_run}
+use Rattle.least_faults.proofs.Asked.{asked_explained, asked_refuted, asked_spent, begun_true, none_added, true_run}
 use Rattle.least_faults.proofs.Assuming.{assumed_below, compatible}
 use Rattle.least_faults.proofs.Posing.{poses}
 use Rattle.least_faults.proofs.Staying.{belong_still, built_for}
@@ -11,10 +11,10 @@ use Rattle.answers.specs.declared.found.Best.{Best}
 use Rattle.least_faults.specs.declared.asking.Asked.TheVariants.{Explained, Refuted, Spent}
 use Rattle.least_faults.specs.declared.parts.Parts.{Parts}
 use Rattle.answers.specs.Explanations.{IsExplanation}
-use Rattle.least_faults.specs.Asking.{AreAssumed, HasAsked, IsSolvedWithin, PutsNoFinal}
+use Rattle.least_faults.specs.Asking.{AreAssumed, HasAsked, IsSolvedWithin}
 use Rattle.least_faults.specs.Columns.{built_within}
 use Rattle.least_faults.specs.Evidence.{IsPosed}
-use Rattle.least_faults.specs.Growing.{AddsAxioms, KeepsQuestion}
+use Rattle.least_faults.specs.Growing.{KeepsQuestion}
 use Rattle.least_faults.specs.Parts.{AreParts, AreReady, BelongTo, built_of, meanings_of_parts}
 use Rattle.log_order.specs.Log.{Log, IsValidLog}
 use Rattle.proof_ledger.specs.Book.{BookEntry, axioms_of, IsValidBook}
@@ -28,6 +28,8 @@ use Rattle.sat_solve.specs.Solving.{SolverState}
 use Rattle.sat_solve.specs.declared.answer.Answer.{Answer}
 use Rattle.sat_solve.specs.declared.answer.Answer.TheVariants as solver
 use Rattle.sat_solve.proofs.Entries.{same_axioms}
+use Rattle.sat_solve.specs.Leaving.{PutsNoFinal, AddsAxioms}
+use Rattle.sat_solve.proofs.Leaving.{axioms_and_learnt}
 
 -- ---- the question to the solver
 
@@ -104,7 +106,7 @@ module _ {R : Type 0} (may : R → ℕ → Type 0) (gives : R → ℕ → ℕ �
 
   -- nothing is refuted where there is a model
   pub shown_none : answer ≡ solver.Sat → PutsNoFinal old new
-  shown_none same = let put = put_for solver.Sat same in learnt_alone old is.mid new is.axioms (record { since = put.since; whole = put.whole; all_learnt = put.put })
+  shown_none same = let put = put_for solver.Sat same in axioms_and_learnt old is.mid new is.axioms (record { since = put.since; whole = put.whole; all_learnt = put.put })
 
   pub shown_run : answer ≡ solver.Sat → IsTrueRun parts.step parts.code.coded (value_in parts.solver.assignment)
   shown_run same =

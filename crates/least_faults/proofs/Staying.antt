@@ -2,7 +2,7 @@
 use Rattle.std.proofs.Common.{◌≡◌, ◌≢◌, ◌∙◌, ℕ, suc, ◌+◌, ◌-◌, List, [], length, max, Option, None, Some, refl, sym, ap, arith, subst, append-nil, length-append}
 use Rattle.card_counter.specs.CounterState.{CounterState}
 use Rattle.des_net.specs.Network.{Net}
-use Rattle.least_faults.proofs.Climbing.{come_on, come_further, searching_further}
+use Rattle.least_faults.proofs.Climbing.{come_on, come_further}
 use Rattle.least_faults.proofs.Columns.{keeps_none, keeps_both}
 use Rattle.least_faults.proofs.ColumnsBuilt.{columns_both, question_columns, within_further, within_none}
 use Rattle.answers.specs.declared.found.Best.{Best}
@@ -11,7 +11,7 @@ use Rattle.least_faults.specs.declared.asking.Asked.TheVariants.{Refuted}
 use Rattle.least_faults.specs.declared.parts.Parts.{Parts}
 use Rattle.answers.specs.Explanations.{IsExplanation}
 use Rattle.least_faults.specs.Ascending.{HasComeTo, HasComeToBy}
-use Rattle.least_faults.specs.Asking.{GoesOnReady, HasAsked, IsSearching}
+use Rattle.least_faults.specs.Asking.{GoesOnReady, HasAsked}
 use Rattle.least_faults.specs.Columns.{columns_built, columns_for, built_within}
 use Rattle.least_faults.specs.Growing.{KeepsQuestion}
 use Rattle.least_faults.specs.Parts.{BelongTo, IsBuilt, built_of}
@@ -23,6 +23,8 @@ use Rattle.run_decode.specs.Decoding.{BelongTogether}
 use Rattle.run_decode.specs.QuestionAxioms.{BuiltQuestion, question_built}
 use Rattle.sat_solve.specs.Solving.{SolverState}
 use Rattle.step_encode.specs.Coded.{CodedSteps}
+use Rattle.sat_solve.proofs.Leaving.{searching_further}
+use Rattle.sat_solve.specs.Leaving.{IsSearching}
 
 -- the columns that were added are counted
 columns_kept : {R : Type 0} {book entries : List BookEntry} (old new : Parts R) (keeps : KeepsQuestion old new book entries) → length new.counter.columns ≡ length old.counter.columns + length keeps.counter.columns

@@ -6,10 +6,10 @@ use Rattle.answers.specs.Explanations.{IsExplanation}
 use Rattle.answers.specs.declared.found.Best.{Best}
 use Rattle.answers.specs.declared.found.Found.{Found}
 use Rattle.answers.specs.declared.found.Found.TheVariants.{Explained, Absent, Many, Undecided}
-use Rattle.least_faults.specs.Evidence.{FinalsNegate, HasFinal, IsEvidence, IsPosed, is_final}
+use Rattle.least_faults.specs.Evidence.{IsEvidence, IsPosed, NegatesAssumed}
 use Rattle.log_order.specs.Log.{Log}
-use Rattle.proof_ledger.specs.Book.{BookEntry, mark, axioms_of, clauses_of, is_mark}
-use Rattle.proof_ledger.specs.Fresh.{AreFresh, is_learnt}
+use Rattle.proof_ledger.specs.Book.{BookEntry, axioms_of, clauses_of}
+use Rattle.proof_ledger.specs.Fresh.{is_learnt}
 use Rattle.prop_core.specs.Trail.{Clashes}
 use Rattle.prop_core.specs.VariableNames.{Meaning, ReadsAs}
 use Rattle.prop_core.specs.declared.lit.Lit.{Lit}
@@ -20,6 +20,7 @@ use Rattle.replay.specs.Traced.{step_faults}
 use Rattle.replay.specs.declared.run.RunStep.{RunStep}
 use Rattle.run_decode.specs.Drawn.{assumption_literals}
 use Rattle.run_decode.specs.QuestionAxioms.{BuiltQuestion}
+use Rattle.sat_solve.specs.Leaving.{HasFinal, LeavesOpen, LeavesClosed}
 
 -- the entry of a run is a fault: a fault event, or a false alarm
 abbrev pub is_fault_entry : Net → RunStep → Bool
@@ -64,10 +65,6 @@ IsFound meanings first since net log n budget (Undecided lo best) = IsUndecidedF
 
 -- ---- what the budget was spent on
 
--- each clause that was learnt since then was fresh
-abbrev pub HaveLearntFresh : List BookEntry → List BookEntry → Type 0
-HaveLearntFresh earlier since = AreFresh earlier since (count_by is_learnt since)
-
 -- By these meanings the axioms of the book pose the question within the bound, with some assumptions for which there is a further conflict.
 pub record HasConflict (meanings : List (ℕ × Meaning)) (book : List BookEntry) (net : Net) (log : Log) (n : ℕ) (bound : Option ℕ) : Type 0 where
   pub assumed : List Lit
@@ -89,29 +86,17 @@ HasConflictFor meanings book net log n (Undecided lo best) = HasConflict meaning
 -- The axioms of the book were those of the question as it was built first. The question was opened by a mark 0 and closed by a mark 1, and the entries between show what was found. At most as many clauses as the budget says were learnt, each of them fresh. Each final one has no literals but negations of assumptions, and there is at most one for each bound from 0 to 255. The axioms of the whole book pose the question without a bound, by these meanings and under some assumptions; the meanings are no more than network, log and n allow.
 pub record IsAnswered (meanings : List (ℕ × Meaning)) (first : BuiltQuestion) (net : Net) (log : Log) (n budget : ℕ) (old new : List BookEntry) (answer : Found) : Type 0 where
   pub begun : first.axioms ≡ axioms_of old
-  pub since : List BookEntry
-  pub whole : new ≡ old ++ mark 0 ∷ since ++ mark 1 ∷ []
-  pub unmarked : (number : ℕ) → count_by (is_mark number) since ≡ 0
-  pub within : count_by is_learnt since ≤ budget
-  pub fresh : HaveLearntFresh (old ++ mark 0 ∷ []) since
-  pub finals : FinalsNegate meanings since net log n
-  pub finals_few : count_by is_final since ≤ 256
+  pub left : LeavesClosed (NegatesAssumed meanings net log n) 256 budget old new
   pub few : length meanings ≤ variable_bound net log n
   pub asks : (assumed : List Lit) × IsPosed meanings (axioms_of new) assumed net log n None
-  pub found : IsFound meanings first since net log n budget answer
+  pub found : IsFound meanings first left.since net log n budget answer
   pub conflict : HasConflictFor meanings new net log n answer
 
 -- ---- without an answer
 
 -- The question was opened by a mark 0 and has no answer: no mark stands behind that one. At most as many clauses as the budget says were learnt, each of them fresh. Each final one has no literals but negations of assumptions, and there is at most one for each bound from 0 to 255. The axioms of the whole book pose the question, as they do where it is answered.
 pub record IsLeftOpen (meanings : List (ℕ × Meaning)) (net : Net) (log : Log) (n budget : ℕ) (old new : List BookEntry) : Type 0 where
-  pub since : List BookEntry
-  pub whole : new ≡ old ++ mark 0 ∷ since
-  pub unmarked : (number : ℕ) → count_by (is_mark number) since ≡ 0
-  pub within : count_by is_learnt since ≤ budget
-  pub fresh : HaveLearntFresh (old ++ mark 0 ∷ []) since
-  pub finals : FinalsNegate meanings since net log n
-  pub finals_few : count_by is_final since ≤ 256
+  pub left : LeavesOpen (NegatesAssumed meanings net log n) 256 budget old new
   pub few : length meanings ≤ variable_bound net log n
   pub asks : (assumed : List Lit) × IsPosed meanings (axioms_of new) assumed net log n None
 

@@ -1,5 +1,5 @@
 -- One question of a search: what it assumes, what it leaves in the book, and what its answer means.
-use Rattle.std.specs.Prelude.{◌≡◌, ◌≢◌, ℕ, ◌+◌, ◌<◌, ◌≤◌, true, false, List, [], ◌∷◌, ◌++◌, length, map, max, Option, Some, None, IfSome, IfNone, Contains, count_by}
+use Rattle.std.specs.Prelude.{◌≡◌, ◌≢◌, ℕ, ◌+◌, ◌<◌, ◌≤◌, true, false, List, [], ◌∷◌, ◌++◌, length, max, Option, Some, None, IfSome, IfNone, count_by}
 use Rattle.std.specs.List.{AllByRecursion, list_all, list_any}
 use Rattle.card_counter.specs.CounterState.{CounterState, bound_literal}
 use Rattle.des_net.specs.Network.{Net, IsNetwork}
@@ -8,18 +8,17 @@ use Rattle.least_faults.specs.declared.asking.Asked.{Asked}
 use Rattle.least_faults.specs.declared.asking.Asked.TheVariants.{Explained, Refuted, Spent}
 use Rattle.least_faults.specs.declared.parts.Parts.{Parts}
 use Rattle.answers.specs.Explanations.{IsExplanation}
-use Rattle.least_faults.specs.Answers.{HaveLearntFresh}
+use Rattle.sat_solve.specs.Leaving.{AddsAxioms, EachFinal, IsSearching}
 use Rattle.least_faults.specs.Columns.{built_within, columns_for}
 use Rattle.least_faults.specs.Evidence.{IsPosed, is_final, IsRefutation}
-use Rattle.least_faults.specs.Growing.{AddsAxioms, KeepsQuestion}
+use Rattle.least_faults.specs.Growing.{KeepsQuestion}
 use Rattle.least_faults.specs.Parts.{AreReady}
 use Rattle.question_clauses.specs.LogClauses.{guard_literals}
-use Rattle.log_encode.specs.CodedLog.{CodedLog, read_meanings, without_names}
+use Rattle.log_encode.specs.CodedLog.{CodedLog, read_meanings, without_names, log_guards}
 use Rattle.log_order.specs.Log.{Log, IsValidLog}
-use Rattle.proof_ledger.specs.Book.{BookEntry, final, clauses_of, is_mark}
+use Rattle.proof_ledger.specs.Book.{BookEntry, clauses_of}
 use Rattle.proof_ledger.specs.Fresh.{is_learnt}
 use Rattle.prop_core.specs.Clauses.{Clause, HasValues, NegatesOnly}
-use Rattle.prop_core.specs.Listings.{literal_by}
 use Rattle.prop_core.specs.Trail.{Clashes}
 use Rattle.prop_core.specs.VariableNames.{ReadsAs}
 use Rattle.prop_core.specs.declared.lit.Lit.{Lit}
@@ -47,7 +46,7 @@ pub record AreAssumptions (code : CodedLog) (counter : CounterState) (bound : Op
 
 -- guards and bound as literals, in their order
 abbrev pub assumed_by : CodedLog → CounterState → Option ℕ → List Lit
-assumed_by code counter bound = map (literal_by (read_meanings code)) (guard_literals code.net code.log) ++ bound_part counter bound
+assumed_by code counter bound = log_guards code ++ bound_part counter bound
 
 -- What is assumed is this list, and the counter has got the columns that the bound needs.
 pub record AreAssumed {R : Type 0} (before : CounterState) (parts : Parts R) (bound : Option ℕ) (assumed : List Lit) : Type 0 where
@@ -75,20 +74,6 @@ pub record IsBoundLiteral {R : Type 0} (before : CounterState) (parts : Parts R)
 
 -- ---- what is put down
 
--- no marks were put, and as many learnt entries as were paid for, each of them fresh
-pub record IsSearching (old new : List BookEntry) (budget_old budget_new : ℕ) : Type 0 where
-  pub since : List BookEntry
-  pub whole : new ≡ old ++ since
-  pub unmarked : (number : ℕ) → count_by (is_mark number) since ≡ 0
-  pub paid : count_by is_learnt since + budget_new ≡ budget_old
-  pub fresh : HaveLearntFresh old since
-
--- no final entry was put, as long as a question has no answer yet
-pub record PutsNoFinal (old new : List BookEntry) : Type 0 where
-  pub since : List BookEntry
-  pub whole : new ≡ old ++ since
-  pub none : list_any is_final since ≡ false
-
 -- The parts stand ready and keep their question, and what was put is that of a search.
 pub record GoesOnReady {R : Type 0} (may : R → ℕ → Type 0) (gives : R → ℕ → ℕ → Type 0) (old new : Parts R) (old_book new_book : List BookEntry) (budget_old budget_new : ℕ) : Type 0 where
   pub ready : AreReady may gives new new_book
@@ -109,7 +94,7 @@ pub record IsSolvedWithin {R : Type 0} (before : CounterState) (parts : Parts R)
 
 -- Each final entry negates assumptions with the bound alone, and there is at most one, and none if nothing is refuted. Without a bound learnt entries alone are put then.
 pub record ArePut (code : CodedLog) (counter : CounterState) (bound : Option ℕ) (since : List BookEntry) (asked : Asked) : Type 0 where
-  pub finals : (clause : Clause) (hints : List ℕ) → Contains since (final clause hints) → (assumed : List Lit) × AreAssumptions code counter bound assumed × NegatesOnly assumed clause
+  pub finals : EachFinal (λ clause. (assumed : List Lit) × AreAssumptions code counter bound assumed × NegatesOnly assumed clause) since
   pub few : count_by is_final since ≤ 1
   pub none : asked ≢ Refuted → list_any is_final since ≡ false
   pub unbounded : IfNone bound (asked ≢ Refuted → list_all is_learnt since ≡ true)

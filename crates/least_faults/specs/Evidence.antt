@@ -1,6 +1,6 @@
 -- What in a book shows that nothing explains a log within a bound on the faults.
-use Rattle.std.specs.Prelude.{◌≡◌, ℕ, false, List, [], ◌∷◌, ◌++◌, Option, Contains}
-use Rattle.std.specs.List.{AllByRecursion, list_any}
+use Rattle.std.specs.Prelude.{◌≡◌, ℕ, List, [], ◌∷◌, ◌++◌, Option}
+use Rattle.std.specs.List.{AllByRecursion}
 use Rattle.des_net.specs.Network.{Net}
 use Rattle.least_faults.specs.Columns.{built_within}
 use Rattle.log_order.specs.Log.{Log}
@@ -11,6 +11,7 @@ use Rattle.prop_core.specs.declared.lit.Lit.{Lit}
 use Rattle.run_decode.specs.Drawn.{IsInstance, assumption_literals}
 use Rattle.run_decode.specs.Faithful.{IsFaithful}
 use Rattle.run_decode.specs.QuestionAxioms.{BuiltQuestion}
+use Rattle.sat_solve.specs.Leaving.{HasLastFinal}
 pub use Rattle.sat_solve.specs.Searching.{is_final}
 
 -- By these meanings clauses and assumptions ask which explanations there are within the bound: they are faithful, each clause is of a family, and what is assumed are, as a set, the guards and the bound.
@@ -20,32 +21,11 @@ pub record IsPosed (meanings : List (ℕ × Meaning)) (clauses : List Clause) (a
   pub instances : AllByRecursion (IsInstance net log n meanings) clauses
   pub assumes : ReadsAs meanings assumed (assumption_literals net log n bound)
 
--- some final entry has no literals but negations of assumptions
-pub record HasFinal (entries : List BookEntry) (assumed : List Lit) : Type 0 where
-  pub clause : Clause
-  pub hints : List ℕ
-  pub there : Contains entries (final clause hints)
-  pub negates : NegatesOnly assumed clause
-
 -- the clause has no literals but negations of what is assumed by these meanings: of the guards, and of some bound
 pub record NegatesAssumed (meanings : List (ℕ × Meaning)) (net : Net) (log : Log) (n : ℕ) (clause : Clause) : Type 0 where
   pub bound : Option ℕ
   pub assumed : List Lit
   pub assumes : ReadsAs meanings assumed (assumption_literals net log n bound)
-  pub negates : NegatesOnly assumed clause
-
--- this holds for each final entry
-abbrev pub FinalsNegate : List (ℕ × Meaning) → List BookEntry → Net → Log → ℕ → Type 0
-FinalsNegate meanings entries net log n = (clause : Clause) (hints : List ℕ) → Contains entries (final clause hints) → NegatesAssumed meanings net log n clause
-
--- the last final entry has no literals but negations of assumptions
-pub record HasLastFinal (entries : List BookEntry) (assumed : List Lit) : Type 0 where
-  pub earlier : List BookEntry
-  pub clause : Clause
-  pub hints : List ℕ
-  pub later : List BookEntry
-  pub whole : entries ≡ earlier ++ final clause hints ∷ later
-  pub last : list_any is_final later ≡ false
   pub negates : NegatesOnly assumed clause
 
 -- The last of these final entries has no literals but negations of assumptions. The axioms before it, the first ones and those of these entries, are as a list those of the question that was built first, with the columns that the bound needs, and what is assumed and all clauses up to this one are over the variables of that question. With the axioms what is assumed is faithful to the question within the bound.

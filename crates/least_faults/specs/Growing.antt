@@ -2,7 +2,7 @@
 use Rattle.std.specs.Prelude.{◌≡◌, ◌≤◌, ℕ, List, ◌++◌, length, map, take, count_by}
 use Rattle.card_counter.specs.CounterState.{CounterState}
 use Rattle.least_faults.specs.declared.parts.Parts.{Parts}
-use Rattle.least_faults.specs.Answers.{HaveLearntFresh}
+use Rattle.sat_solve.specs.Leaving.{HaveLearntFresh}
 use Rattle.least_faults.specs.Columns.{columns_built}
 use Rattle.least_faults.specs.Parts.{built_of}
 use Rattle.proof_ledger.specs.Book.{BookEntry, axiomatic}
@@ -22,11 +22,6 @@ pub record KeepsQuestion {R : Type 0} (old new : Parts R) (old_book new_book : L
   pub counter : KeepsColumns old.counter new.counter
   pub rank : new.solver.order.rank ≡ old.solver.order.rank
   pub built : built_of new new_book ≡ columns_built (built_of old old_book) (length counter.columns)
-
--- the book got axioms, and nothing else
-pub record AddsAxioms (old new : List BookEntry) : Type 0 where
-  pub axioms : List Clause
-  pub more : new ≡ old ++ map axiomatic axioms
 
 -- the book has a front of these axioms, and nothing else
 pub record HasFrontOf (axioms : List Clause) (book : List BookEntry) : Type 0 where

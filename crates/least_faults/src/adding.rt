@@ -1,5 +1,5 @@
 // An addition to the log of a question whose clauses stand in a book: room first, and then all of it.
-ghost use Rattle.std.specs.Prelude.{◌≡◌, ◌≤◌, ◌+◌, ◌*◌, [], true, All, length, sum_by, IfOk, OnOk};
+ghost use Rattle.std.specs.Prelude.{◌≡◌, ◌≤◌, ◌+◌, ◌*◌, true, All, length, sum_by, IfOk, OnOk};
 ghost use Rattle.des_base.specs.declared.TheConstants.{MOST_COLUMNS};
 ghost use Rattle.card_counter.specs.CounterState.{IsMade};
 ghost use Rattle.card_counter.specs.Growing.{AddsInputs, HasRoom, MayCount};

@@ -2,8 +2,9 @@
 ghost use Rattle.std.specs.Prelude.{◌≡◌, ◌<◌, ◌≤◌, ◌+◌, IfOk, OnOk, OnErr, length};
 ghost use Rattle.des_base.specs.declared.TheConstants.{MOST_COLUMNS};
 ghost use Rattle.least_faults.specs.Asking.{IsBoundLiteral};
-ghost use Rattle.least_faults.specs.Growing.{AddsAxioms, KeepsQuestion, StandsStill};
+ghost use Rattle.least_faults.specs.Growing.{KeepsQuestion, StandsStill};
 ghost use Rattle.least_faults.specs.Parts.{AreReady, AreReadyBeside};
+ghost use Rattle.sat_solve.specs.Leaving.{AddsAxioms};
 
 use crate::parts::Parts;
 use des_base::Memory;

@@ -35,3 +35,6 @@ pub use searching::least;
 
 /// The size of the largest question that is built.
 pub const MOST_SIZE: u64 = 20_000_000;
+
+/// How many literals a search is advised to try at most.
+pub const MOST_TRIES: usize = 100_000;

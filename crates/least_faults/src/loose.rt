@@ -6,12 +6,10 @@
 // try this.
 ghost use Rattle.std.specs.Prelude.{◌<◌, ◌≤◌, length};
 
+use crate::MOST_TRIES;
 use des_base::{CompId, Memory};
 use log_encode::LogCode;
 use prop_core::Lit;
-
-// No more literals are tried.
-const MOST: usize = 100_000;
 
 // Whether all alarms are surely of one device, and two of them have the same deadline, so that no pair orders these.
 pub fn are_loose(devices: &[Vec<CompId>], deadlines: &[u32]) -> bool {
@@ -44,19 +42,24 @@ pub fn push_unpassed(code: &LogCode, alarms: u32, tries: &mut Vec<Lit>) -> Resul
 {
     for step in (0..code.steps()).rev() {
         for alarm in 0..alarms {
-            push_links(code, alarm, step, tries)?;
+            push_unpassed_of(code, alarm, step, tries)?;
         }
     }
     Ok(())
 }
 
 // Adds that an alarm passes no event on in a step, as long as there aren't too many.
-fn push_links(code: &LogCode, alarm: u32, step: u32, tries: &mut Vec<Lit>) -> Result<(), Memory>
+fn push_unpassed_of(
+    code: &LogCode,
+    alarm: u32,
+    step: u32,
+    tries: &mut Vec<Lit>,
+) -> Result<(), Memory>
     requires { alarm < length code.now.coded.log.alarms }
 {
     for link in 0..u32::MAX {
         match code.unpassed(alarm, link, step) {
-            Some(lit) if tries.len() < MOST => tries.push(lit)?,
+            Some(lit) if tries.len() < MOST_TRIES => tries.push(lit)?,
             _ => break,
         }
     }

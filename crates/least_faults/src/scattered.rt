@@ -8,6 +8,7 @@ ghost use Rattle.std.specs.Prelude.{◌≡◌, ◌<◌, ◌≤◌, length};
 ghost use Rattle.least_faults.specs.Parts.{BelongTo};
 ghost use Rattle.least_faults.specs.Trying.{IsCodeFor};
 
+use crate::MOST_TRIES;
 use crate::deadlines::{devices, missed_deadlines};
 use crate::parts::Parts;
 use crate::question::Question;
@@ -15,9 +16,6 @@ use des_base::{CompId, EventId, Memory};
 use des_net::Network;
 use log_encode::LogCode;
 use prop_core::Lit;
-
-// No more literals are tried.
-const MOST: usize = 100_000;
 
 // An event that an alarm may stand for: the alarm, and the number of the event among those.
 #[derive(Clone, Copy)]
@@ -89,7 +87,7 @@ fn push_steps(
 {
     for step in (0..code.steps()).rev() {
         for link in links {
-            if link.alarm < alarms && tries.len() < MOST {
+            if link.alarm < alarms && tries.len() < MOST_TRIES {
                 if let Some(lit) = code.unpassed(link.alarm, link.number, step) {
                     tries.push(lit)?;
                 }
@@ -108,13 +106,13 @@ fn links_by_device(question: Question<'_>, code: &LogCode) -> Result<Vec<Vec<Lin
         links.push(Vec::new(question.alloc))?;
     }
     for alarm in 0..question.log.alarms() {
-        push_links(question.net, code, alarm, &mut links)?;
+        push_device_links(question.net, code, alarm, &mut links)?;
     }
     Ok(links)
 }
 
 // Adds the links of an alarm.
-fn push_links(
+fn push_device_links(
     net: &Network,
     code: &LogCode,
     alarm: u32,
@@ -126,8 +124,8 @@ fn push_links(
     for number in 0..u32::MAX {
         match code.linked(alarm, number) {
             Some(event) => {
-                if let Some(own) = links.get_mut(first_device(net, event) as usize) {
-                    own.push(Link { alarm, number })?;
+                if let Some(device) = first_device(net, event) {
+                    push_link(Link { alarm, number }, device, links)?;
                 }
             }
             None => break,
@@ -136,13 +134,19 @@ fn push_links(
     Ok(())
 }
 
-// The least number of a device that an event touches.
-fn first_device(net: &Network, event: EventId) -> u32
+// Adds a link to those of a device.
+fn push_link(link: Link, device: CompId, links: &mut [Vec<Link>]) -> Result<(), Memory> {
+    if let Some(own) = links.get_mut(device.0 as usize) {
+        own.push(link)?;
+    }
+    Ok(())
+}
+
+// The device with the least number of those that an event touches. None: it touches none.
+fn first_device(net: &Network, event: EventId) -> Option<CompId>
     requires { event < length net.now.events }
 {
-    let mut first = u32::MAX;
-    for part in net.event(event).parts.as_slice() {
-        first = first.min(part.comp.0);
-    }
-    first
+    let parts = net.event(event).parts.as_slice();
+    let first = parts.iter().map(|part| part.comp.0).min()?;
+    Some(CompId(first))
 }

@@ -61,13 +61,13 @@ few_variables net cost log n book h =
 -- a budget that leaves it undecided is small
 pub unpriced_is_small : (net : Net) (cost : ℕ → ℕ) (log : Log) (n budget : ℕ) (book : List BookEntry) (lo : ℕ) (best : Option Priced) → IsPricedBy net cost log n budget book (Undecided lo best) → budget < 3 ^ cost_variables net log n
 unpriced_is_small net cost log n budget book lo best h =
-    let since = h.answered.since in
+    let since = h.answered.left.since in
     let old = map axiomatic (question_axioms net log n 0) in
     let count = h.question.vars in
-    let same = ap axioms_of h.answered.whole ∙ axioms_between old since in
+    let same = ap axioms_of h.answered.left.whole ∙ axioms_between old since in
     let all = subst (AllByRecursion (HasValues count)) same (weighed_below cost _ _ _ count (axioms_of book) h.question.scale h.question.weighed) in
     let known = λ (var : ℕ) (there : occurs var ((old ++ mark 0 ∷ []) ++ since) ≡ true). known_below count (axioms_of ((old ++ mark 0 ∷ []) ++ since)) all var there in
-    let small = fresh_below (numbers_below count) (old ++ mark 0 ∷ []) since (count_by is_learnt since) known h.answered.fresh in
+    let small = fresh_below (numbers_below count) (old ++ mark 0 ∷ []) since (count_by is_learnt since) known h.answered.left.fresh in
     let power = ap (λ k. 3 ^ k) (length-range_with_len 0 count) in
     let most = pow-le-pow_right {n = 3} (omega arith) (few_variables net cost log n book h.question) in
     omega (arith, small, power, most, h.answered.found.spent)

@@ -79,6 +79,6 @@ fn price_by<C: Fn(u32) -> u32, R: Fn(u32) -> u64>(
     ensures left { (table : List (Option ℕ)) → AnswersTable C.post costs.now.cost case.now.net table → LeavesCosts case.now.net (fault_costs case.now.net table) case.now.log parts.old.step.steps budget book.new.entries }
 {
     let cheap = cheapest(alloc, &case.net, &case.log, parts, costs, book, budget);
-    book.entries();
+    book.is_valid();
     cheap
 }

@@ -2,7 +2,7 @@
 ghost use Rattle.std.specs.Prelude.{◌≡◌, ◌<◌, ◌++◌, All, length, IfSome, OnErr, OnOk};
 ghost use Rattle.des_base.specs.Lists.{Extends};
 ghost use Rattle.replay.specs.Traced.{word_of};
-ghost use Rattle.report.specs.Replies.{CheapEventsKnown, text_of_cheap, text_of_run, text_of_totals};
+ghost use Rattle.report.specs.Replies.{CheapEventsKnown, text_of_cheap, text_of_totals};
 
 use crate::pieces::{push_numbered, push_placed, push_text, whole_or_nothing};
 use crate::run::push_run;

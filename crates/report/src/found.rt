@@ -2,7 +2,7 @@
 ghost use Rattle.std.specs.Prelude.{◌≡◌, ◌<◌, ◌++◌, All, length, IfOk, IfSome, OnErr, OnOk};
 ghost use Rattle.replay.specs.Traced.{word_of};
 ghost use Rattle.des_base.specs.Lists.{Extends};
-ghost use Rattle.report.specs.Replies.{EventsKnown, text_of_bounds, text_of_found, text_of_run};
+ghost use Rattle.report.specs.Replies.{EventsKnown, text_of_bounds, text_of_found};
 
 use crate::pieces::{push_numbered, push_placed, push_text, whole_or_nothing};
 use crate::run::push_run;

@@ -1,5 +1,5 @@
 // The text of what a twin test came to.
-ghost use Rattle.std.specs.Prelude.{◌≡◌, ◌<◌, ◌++◌, All, length, codes, OnErr, OnOk};
+ghost use Rattle.std.specs.Prelude.{◌≡◌, ◌<◌, ◌++◌, All, length, OnErr, OnOk};
 ghost use Rattle.des_base.specs.Lists.{Extends};
 ghost use Rattle.replay.specs.Traced.{word_of};
 ghost use Rattle.report.specs.Replies.{TwinEventsKnown, text_of_both, text_of_run, text_of_twin};

@@ -19,7 +19,7 @@ use Rattle.sat_solve.specs.declared.answer.Answer.TheVariants.{Sat, Spent, Unsat
 pub same_put : (old new one other : List BookEntry) → new ≡ old ++ one → new ≡ old ++ other → one ≡ other
 same_put old new one other by_one by_other = append_cancel_left old one other (sym by_one ∙ by_other)
 
-counted_both : (p : BookEntry → Bool) (xs ys : List BookEntry) → count_by p (xs ++ ys) ≡ count_by p xs + count_by p ys
+pub counted_both : (p : BookEntry → Bool) (xs ys : List BookEntry) → count_by p (xs ++ ys) ≡ count_by p xs + count_by p ys
 counted_both p xs ys = sum_by-append (λ (e : BookEntry). cond (p e) 1 0) xs ys
 
 -- ---- axioms

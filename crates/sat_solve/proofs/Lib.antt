@@ -20,3 +20,5 @@ mod Trying
 mod Taking
 mod Adding
 pub mod Entries
+pub mod Freshness
+pub mod Leaving

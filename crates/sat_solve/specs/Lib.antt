@@ -1,5 +1,6 @@
 pub mod Widening
 pub mod Searching
+pub mod Leaving
 pub mod Solving
 pub mod Heap
 pub mod Activity

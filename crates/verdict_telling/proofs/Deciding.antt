@@ -35,7 +35,7 @@ one_open : (m : Matter) (vars : List ℕ) (e : ℕ) (old new : List BookEntry) (
 one_open m vars e old new Certain among judged is = cc
 one_open m vars e old new Excluded among judged is = cc
 one_open m vars e old new (Possible run) among judged is = cc
-one_open m vars e old new Open among (inl asked) is = between_marks vars old asked.since new m.budget asked.whole among asked.found.fresh
+one_open m vars e old new Open among (inl asked) is = between_marks vars old asked.left.since new m.budget asked.left.whole among asked.found.fresh
 one_open m vars e old new Open among (inr shown) is = let other = shown.verdict_is in cc
 
 some_open : (m : Matter) (vars : List ℕ) (events : List ℕ) (old new : List BookEntry) (verdicts : List Verdict) → IncludeVariablesOf vars new → AreJudged m events old new verdicts → list_any is_undecided verdicts ≡ true → m.budget < 3 ^ length vars
@@ -59,4 +59,4 @@ open_is_small net log n budget Absent verdicts book texts have is vars among = c
 open_is_small net log n budget (Many best) verdicts book texts have is vars among = cc
 open_is_small net log n budget (Undecided lo best) verdicts book texts have is vars among =
     let answered = have.diagnosed.answered in
-    subst (λ (count : ℕ). count < 3 ^ length vars) answered.found.spent (between_marks vars _ answered.since have.front _ answered.whole (subst (IncludeVariablesOf vars) have.follows.book among) answered.fresh)
+    subst (λ (count : ℕ). count < 3 ^ length vars) answered.found.spent (between_marks vars _ answered.left.since have.front _ answered.left.whole (subst (IncludeVariablesOf vars) have.follows.book among) answered.left.fresh)

@@ -9,7 +9,7 @@ use Rattle.des_base.specs.Outside.{Output, Took}
 use Rattle.des_net.specs.Network.{Net, is_fault}
 use Rattle.fault_verdicts.specs.Judges.{IsEventJudged, IsLeftUnjudged, Matter}
 use Rattle.answers.specs.declared.verdict.Verdict.{Verdict}
-use Rattle.least_faults.proofs.Freshness.{fresh_none}
+use Rattle.sat_solve.proofs.Freshness.{fresh_none}
 use Rattle.least_faults.specs.Growing.{HasGrownWithin}
 use Rattle.proof_ledger.specs.Book.{BookEntry}
 use Rattle.report.specs.VerdictTexts.{text_of_verdict}

@@ -6,7 +6,7 @@ use Rattle.des_net.specs.Network.{Net}
 use Rattle.fault_verdicts.specs.Judges.{IsEventJudged, Matter}
 use Rattle.answers.specs.declared.verdict.Verdict.{Verdict}
 use Rattle.least_faults.proofs.Closing.{grown_closed, grown_not}
-use Rattle.least_faults.proofs.Freshness.{fresh_both, fresh_mark}
+use Rattle.sat_solve.proofs.Freshness.{fresh_both, fresh_mark}
 use Rattle.least_faults.specs.Growing.{HasGrownWithin}
 use Rattle.proof_ledger.specs.Book.{BookEntry, mark}
 use Rattle.proof_ledger.specs.Fresh.{is_learnt}
@@ -43,13 +43,13 @@ grown_still budget old new same = subst (λ (book : List BookEntry). HasGrownWit
 -- a question about an event is opened, asked and closed, or a run was known
 pub judged_grows : (m : Matter) (e : ℕ) (old new : List BookEntry) (verdict : Verdict) → IsEventJudged m e old new verdict → HasGrownWithin m.budget old new
 judged_grows m e old new verdict (inr shown) = grown_still m.budget old new shown.same
-judged_grows m e old new verdict (inl asked) = grown_closed m.budget old (old ++ (mark 0 ∷ asked.since)) new asked.whole (record {
-  since = mark 0 ∷ asked.since;
+judged_grows m e old new verdict (inl asked) = grown_closed m.budget old (old ++ (mark 0 ∷ asked.left.since)) new asked.left.whole (record {
+  since = mark 0 ∷ asked.left.since;
   whole = refl;
-  within = (let few = asked.within in
-      let one = count_append is_learnt (mark 0 ∷ []) asked.since in
+  within = (let few = asked.left.within in
+      let one = count_append is_learnt (mark 0 ∷ []) asked.left.since in
       omega (arith, few, one));
-  fresh = fresh_both old (old ++ mark 0 ∷ []) (mark 0 ∷ []) asked.since refl (fresh_mark old 0) asked.fresh;
+  fresh = fresh_both old (old ++ mark 0 ∷ []) (mark 0 ∷ []) asked.left.since refl (fresh_mark old 0) asked.left.fresh;
 })
 
 -- ---- stages

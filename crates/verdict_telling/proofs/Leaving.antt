@@ -10,8 +10,8 @@ use Rattle.fault_verdicts.specs.Ready.{AreReadyForVerdicts}
 use Rattle.fault_verdicts.specs.Riders.{AreAskedOf}
 use Rattle.inquiries.specs.Begun.{HasAskedWithin, HasQuestion}
 use Rattle.inquiries.specs.Diagnosed.{IsDiagnosed}
-use Rattle.least_faults.proofs.Freshness.{fresh_both}
-use Rattle.least_faults.specs.Answers.{HaveLearntFresh}
+use Rattle.sat_solve.proofs.Freshness.{fresh_both}
+use Rattle.sat_solve.specs.Leaving.{HaveLearntFresh}
 use Rattle.least_faults.specs.Growing.{HasGrownWithin}
 use Rattle.least_faults.specs.Parts.{BelongTo}
 use Rattle.least_faults.specs.declared.parts.Parts.{Parts}

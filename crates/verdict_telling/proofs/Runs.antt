@@ -30,7 +30,7 @@ known names first since net log n budget (Undecided lo None) h = tt
 
 -- the events of a run that was found are the network's
 pub found_known : (net : Net) (log : Log) (n budget : ℕ) (book : List BookEntry) (found : Found) → IsDiagnosed net log n budget book found → EventsKnown net found
-found_known net log n budget book found h = known h.meanings _ h.answered.since net log n budget found h.answered.found
+found_known net log n budget book found h = known h.meanings _ h.answered.left.since net log n budget found h.answered.found
 
 -- ---- a verdict
 

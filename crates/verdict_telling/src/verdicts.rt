@@ -54,7 +54,7 @@ pub fn tell_verdicts<R: Fn(u32) -> u64, S: Sink>(
     let told = tell_all(alloc, net, &mut teller, out);
     let VerdictTeller { judge, open_left } = teller;
     *book = judge.into_book();
-    book.entries();
+    book.is_valid();
     left_open(told, open_left)
 }
 

@@ -15,7 +15,7 @@ returns-clause-goes_on g c =
 pub returns-clause-told : goal.returns-clause-told
 returns-clause-told g c =
     question_told_by c.args.budget c.args.kept.now (record { log = c.args.kept.now.log; size = c.args.kept.now.size; parts = c.least.new.parts; book = c.least.new.book }) (rw c.advise.ensures at c.least.ensures.kept)
-    c.args.setting.net.now c.args.setting.steps c.in_ok-found.found c.requires.kept.of_log.time (rw c.advise.ensures at c.in_ok-found.ensures.answered) c.entries-entries.ensures.valid
+    c.args.setting.net.now c.args.setting.steps c.in_ok-found.found c.requires.kept.of_log.time (rw c.advise.ensures at c.in_ok-found.ensures.answered) c.is_valid.ensures
 
 pub returns-in_err-advise-clause-unanswered : goal.returns-in_err-advise-clause-unanswered
 returns-in_err-advise-clause-unanswered g c =

@@ -7,5 +7,5 @@ returns g c = record {
   axioms = refl;
   poses = book_poses c.args.setting.net.now c.args.setting.steps c.args.kept.now c.requires c.is_built.ensures.network c.is_whole.ensures.whole.valid c.guards-guards.result.now c.guards-guards.ensures.guards;
   lean = book_lean c.args.setting.net.now c.args.setting.steps c.args.kept.now c.requires;
-  valid = c.entries-entries.ensures.valid;
+  valid = c.is_valid.ensures;
 }

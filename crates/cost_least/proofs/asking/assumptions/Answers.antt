@@ -1,5 +1,5 @@
 use Rattle.std.proofs.Common.{ap, ◌++◌, ◌∙◌, List}
-use Rattle.cost_least.proofs.Guards.{guards_listed}
+use Rattle.log_encode.proofs.Guards.{guards_listed}
 use Rattle.prop_core.specs.declared.lit.Lit.{Lit}
 use Rattle.cost_least.specs.Pricing.{cost_limit}
 use Rattle.cost_least.proofs.asking.assumptions.Goals as goal

@@ -1,7 +1,7 @@
 use Rattle.std.proofs.lemmas.Result.{on_err_weaker}
 use Rattle.des_base.proofs.Results.{on_err}
 use Rattle.cost_least.proofs.Answering.{can_search, solved}
-use Rattle.cost_least.proofs.Finding.{learnt_alone, nothing_put}
+use Rattle.sat_solve.proofs.Leaving.{learnt_alone, nothing_put}
 use Rattle.cost_least.proofs.Weighed.{goes_by_search, goes_none}
 use Rattle.cost_least.proofs.asking.solve.Goals as goal
 
@@ -10,7 +10,7 @@ returns-in_err-assumed-clause-goes_on g c = goes_none _ _ c.args.parts.now c.arg
 
 pub solve-requires : goal.solve-requires
 solve-requires g c =
-    let can = can_search _ _ c.requires.weighed.0 c.args.parts.now c.args.question.scale c.args.book.now.entries _ _ c.args.within _ _ c.requires.weighed.1 c.requires.belong c.is_built.ensures.network c.is_whole.ensures.whole.valid c.has_guards.ensures c.requires.bound c.as_slice.ensures.value c.in_ok-assumed.ensures in
+    let can = can_search _ _ c.requires.weighed.0 c.args.parts.now c.args.question.scale c.args.book.now.entries _ _ c.args.within _ _ c.requires.weighed.1 c.requires.belong c.is_built.ensures.network c.is_whole.ensures.whole.valid c.has_guards.ensures.guards c.requires.bound c.as_slice.ensures.value c.in_ok-assumed.ensures in
     record { adopted = c.requires.weighed.1.adopted_all; known = can.known; compatible = can.compatible }
 
 pub returns-clause-goes_on : goal.returns-clause-goes_on

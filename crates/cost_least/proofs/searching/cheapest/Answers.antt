@@ -7,12 +7,13 @@ use Rattle.proof_ledger.specs.Book.{axioms_of}
 use Rattle.proof_ledger.specs.Kept.{LedgerState}
 use Rattle.prop_core.specs.Clauses.{Clause}
 use Rattle.step_encode.specs.Coded.{CodedSteps}
-use Rattle.cost_least.proofs.Finding.{answered, grown_weighed, grown_searched, left_open, refused_by}
+use Rattle.cost_least.proofs.Finding.{answered, grown_weighed, grown_searched, left_open}
 use Rattle.cost_least.proofs.Weighed.{belongs_still, keeps_same, keeps_both}
 use Rattle.cost_least.specs.Searching.{LeavesUnpriced, asked_of}
 use Rattle.cost_least.specs.Weighed.{AreWeighedParts}
 use Rattle.cost_least.proofs.searching.cheapest.Goals as goal
 use Rattle.proof_ledger.proofs.AxiomLists.{marked_axioms}
+use Rattle.sat_solve.proofs.Leaving.{finals_left}
 
 pub weigh-requires-clause-ready : goal.weigh-requires-clause-ready
 weigh-requires-clause-ready g c = marked_ready _ _ c.args.parts.now 0 c.args.book.now.entries c.put_mark.new.self.entries (ap (λ (b : LedgerState). b.entries) c.in_ok-put_mark.ensures.added) c.requires.ready
@@ -104,7 +105,7 @@ returns-in_err-put_mark-2-clause-unanswered g c =
       answered = asked.answered;
       others = asked.others;
       unanswered = left_open (asked_of c.args.net.now asked.cost c.args.log.now now) c.args.budget c.search.new.budget c.args.book.now.entries c.put_mark.new.self.entries c.weigh.new.book.entries c.search.new.book.entries
-          (ap (λ (b : LedgerState). b.entries) c.in_ok-put_mark.ensures.added) c.weigh.ensures.axioms c.search.ensures.goes_on.searching (refused_by _ _ _ _ _ (c.in_ok-cheap.ensures.found asked.cost asked.answered asked.weighed));
+          (ap (λ (b : LedgerState). b.entries) c.in_ok-put_mark.ensures.added) c.weigh.ensures.axioms c.search.ensures.goes_on.searching (finals_left _ (1 + MOST_COST) c.args.budget _ _ (c.in_ok-cheap.ensures.found asked.cost asked.answered asked.weighed).put);
       scale = c.in_ok-scale.scale;
       weighed = (c.search.ensures.goes_on.still asked.cost asked.weighed).coded;
     }))))

@@ -51,8 +51,8 @@ pub returns-in-Spent-clause-found : goal.returns-in-Spent-clause-found
 returns-in-Spent-clause-found g c =
     let test = c.loop-lo-test.true in
     let most = c.ceiling.ensures in
-    ends_undecided _ _ _ c.args.costs.now.cost _ _ c.args.parts.now c.args.question.scale c.args.book.now.entries c.args.budget.now c.requires.belong c.is_built.ensures.network c.is_whole.ensures.whole.valid c.has_guards.ensures
-    c.loop-lo.parts c.ask.new.parts _ _ _ _ _ _ _ _ c.loop-lo.invariant c.ask.ensures.goes_on c.in_ok-asked.ensures.asked c.in-Spent.is c.entries.ensures.valid (omega (arith, test, most)) c.middle-b.ensures
+    ends_undecided _ _ _ c.args.costs.now.cost _ _ c.args.parts.now c.args.question.scale c.args.book.now.entries c.args.budget.now c.requires.belong c.is_built.ensures.network c.is_whole.ensures.whole.valid c.has_guards.ensures.guards
+    c.loop-lo.parts c.ask.new.parts _ _ _ _ _ _ _ _ c.loop-lo.invariant c.ask.ensures.goes_on c.in_ok-asked.ensures.asked c.in-Spent.is c.is_valid.ensures (omega (arith, test, most)) c.middle-b.ensures
 
 pub returns-then-best-gt-MOST_COST-clause-goes_on : goal.returns-then-best-gt-MOST_COST-clause-goes_on
 returns-then-best-gt-MOST_COST-clause-goes_on g c = c.loop-lo.invariant.goes
@@ -62,7 +62,7 @@ returns-then-best-gt-MOST_COST-clause-found g c =
     let end = c.loop-lo-test.false in
     let most = c.ceiling.ensures in
     let side = c.if-best-gt-MOST_COST.true in
-    λ cost answered weighed. ends_dear _ _ _ c.args.costs.now.cost _ _ c.args.parts.now c.args.question.scale c.args.book.now.entries c.args.budget.now c.requires.belong c.is_built.ensures.network c.is_whole.ensures.whole.valid c.has_guards.ensures
+    λ cost answered weighed. ends_dear _ _ _ c.args.costs.now.cost _ _ c.args.parts.now c.args.question.scale c.args.book.now.entries c.args.budget.now c.requires.belong c.is_built.ensures.network c.is_whole.ensures.whole.valid c.has_guards.ensures.guards
     c.loop-lo.parts _ _ _ _ c.loop-lo.invariant (omega (arith, end, most)) cost answered weighed (omega (arith, side))
 
 pub returns-else-best-gt-MOST_COST-clause-goes_on : goal.returns-else-best-gt-MOST_COST-clause-goes_on
@@ -73,10 +73,10 @@ returns-else-best-gt-MOST_COST-clause-found g c =
     let end = c.loop-lo-test.false in
     let most = c.ceiling.ensures in
     let side = c.if-best-gt-MOST_COST.false in
-    λ cost answered weighed. ends_cheapest _ _ _ c.args.costs.now.cost _ _ c.args.parts.now c.args.question.scale c.args.book.now.entries c.args.budget.now c.requires.belong c.is_built.ensures.network c.is_whole.ensures.whole.valid c.has_guards.ensures
+    λ cost answered weighed. ends_cheapest _ _ _ c.args.costs.now.cost _ _ c.args.parts.now c.args.question.scale c.args.book.now.entries c.args.budget.now c.requires.belong c.is_built.ensures.network c.is_whole.ensures.whole.valid c.has_guards.ensures.guards
     c.loop-lo.parts _ _ _ _ c.loop-lo.invariant (omega (arith, end, most)) cost answered weighed (omega (arith, side))
 
 pub returns-in_err-asked-clause-quit : goal.returns-in_err-asked-clause-quit
 returns-in_err-asked-clause-quit g c =
-    on_err _ _ (quits_at _ _ (goal.C-post g) c.args.costs.now.cost _ _ c.args.parts.now c.args.question.scale c.args.book.now.entries c.args.budget.now c.requires.belong c.is_built.ensures.network c.is_whole.ensures.whole.valid c.has_guards.ensures
+    on_err _ _ (quits_at _ _ (goal.C-post g) c.args.costs.now.cost _ _ c.args.parts.now c.args.question.scale c.args.book.now.entries c.args.budget.now c.requires.belong c.is_built.ensures.network c.is_whole.ensures.whole.valid c.has_guards.ensures.guards
     c.loop-lo.parts c.ask.new.parts _ _ _ _ _ _ c.loop-lo.invariant c.ask.ensures.goes_on c.in_err-asked.ensures.quit)

@@ -1,5 +1,5 @@
 use Rattle.std.proofs.Common.{ap, arith, refl, subst, sym, ◌∙◌}
-use Rattle.least_faults.proofs.Freshness.{known_after}
+use Rattle.sat_solve.proofs.Freshness.{known_after}
 use Rattle.prop_core.specs.ClauseStore.{ClauseStore}
 use Rattle.sat_order.specs.Rank.{IsRanked}
 use Rattle.sat_solve.specs.Solving.{SolverState}

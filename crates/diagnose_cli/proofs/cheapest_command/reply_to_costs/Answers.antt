@@ -8,4 +8,4 @@ pub tell-requires-clause-known : goal.tell-requires-clause-known
 tell-requires-clause-known c =
     let q : CostAsked = record { net = c.args.case.now.net; cost = fault_costs c.args.case.now.net c.args.table.now; log = c.args.case.now.log; steps = c.args.limits.steps } in
     let answered = c.in_ok-cheap.ensures.says.answered in
-    cheap_known q _ answered.since c.args.limits.budget c.in_ok-cheap.cheap answered.found
+    cheap_known q _ answered.left.since c.args.limits.budget c.in_ok-cheap.cheap answered.found

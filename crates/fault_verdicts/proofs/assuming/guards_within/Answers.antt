@@ -8,7 +8,7 @@ use Rattle.fault_verdicts.specs.Judging.{KeepsStepsAndLog, bound_for}
 use Rattle.fault_verdicts.specs.Ready.{AreReadyWith}
 use Rattle.least_faults.proofs.AxiomLists.{adds_none}
 use Rattle.least_faults.specs.Asking.{AreAssumptions}
-use Rattle.least_faults.specs.Growing.{AddsAxioms}
+use Rattle.sat_solve.specs.Leaving.{AddsAxioms}
 use Rattle.least_faults.specs.declared.parts.Parts.{Parts}
 
 pub returns-in_err-bound-clause-ready : goal.returns-in_err-bound-clause-ready

@@ -5,8 +5,8 @@ use Rattle.fault_verdicts.proofs.Answered.{solved}
 use Rattle.fault_verdicts.proofs.Asking.{can_search}
 use Rattle.fault_verdicts.proofs.Going.{belong_on, goes_both, goes_by_solver, ready_after_search}
 use Rattle.fault_verdicts.proofs.judging.solve.Goals as goal
-use Rattle.least_faults.proofs.Asked.{axioms_no_final, learnt_alone, searching_axioms, searching_both}
 use Rattle.std.proofs.lemmas.Result.{on_err_weaker}
+use Rattle.sat_solve.proofs.Leaving.{axioms_no_final, searching_axioms, searching_both, axioms_and_learnt}
 
 pub assume-requires-clause-known : goal.assume-requires-clause-known
 assume-requires-clause-known g c = subst (λ (m : Net). c.args.event < length m.events) (sym c.requires.belong.of_steps) c.requires.known
@@ -48,4 +48,4 @@ pub returns-in_err-assumed-clause-quit : goal.returns-in_err-assumed-clause-quit
 returns-in_err-assumed-clause-quit g c = on_err _ _ (axioms_no_final c.args.book.now.entries c.assume.new.book.entries c.assume.ensures.axioms)
 
 pub returns-clause-quit : goal.returns-clause-quit
-returns-clause-quit g c = on_err_weaker c.solve.result (learnt_alone c.args.book.now.entries c.assume.new.book.entries c.solve.new.book.entries c.assume.ensures.axioms) c.solve.ensures.quit
+returns-clause-quit g c = on_err_weaker c.solve.result (axioms_and_learnt c.args.book.now.entries c.assume.new.book.entries c.solve.new.book.entries c.assume.ensures.axioms) c.solve.ensures.quit

@@ -51,9 +51,9 @@ returns-clause-grown g c =
 
 pub returns-clause-judged : goal.returns-clause-judged
 returns-clause-judged g c =
-    judged c.args.net.now c.args.log.now c.ask.new.parts.step.steps c.args.k c.args.event c.args.budget c.ask.new.left c.args.first.now c.args.book.now.entries c.put_mark.new.self.entries c.ask.new.book.entries c.put_mark-2.new.self.entries c.in_ok-verdict.verdict
+    judged c.args.net.now c.args.log.now c.ask.new.parts.step.steps c.args.k c.args.event c.args.budget c.args.first.now c.args.book.now.entries c.put_mark.new.self.entries c.ask.new.book.entries c.put_mark-2.new.self.entries c.in_ok-verdict.verdict
     (ap (λ (b : LedgerState). b.entries) c.in_ok-put_mark.ensures.added) (ap (λ (b : LedgerState). b.entries) c.in_ok-put_mark-2.ensures.added)
-    (subst (λ steps. IsVerdictShown c.args.net.now c.args.log.now c.ask.new.parts.step.steps c.args.k c.args.event steps c.args.budget c.ask.new.left c.put_mark.new.self.entries c.ask.new.book.entries c.in_ok-verdict.verdict) c.steps.ensures.steps c.in_ok-verdict.ensures.asked)
+    (subst (λ steps. IsVerdictShown c.args.net.now c.args.log.now c.ask.new.parts.step.steps c.args.k c.args.event steps c.args.budget c.put_mark.new.self.entries c.ask.new.book.entries c.in_ok-verdict.verdict) c.steps.ensures.steps c.in_ok-verdict.ensures.asked)
 
 pub returns-in_err-put_mark-clause-unanswered : goal.returns-in_err-put_mark-clause-unanswered
 returns-in_err-put_mark-clause-unanswered g c = on_err _ _ (inl (ap (λ (b : LedgerState). b.entries) c.in_err-put_mark.ensures.err))
@@ -69,7 +69,7 @@ returns-in_err-put_mark-2-clause-unanswered g c =
     on_err _ _ (subst (λ (b : LedgerState). IsVerdictOpenAtMost c.args.net.now c.args.log.now c.ask.new.parts.step.steps c.args.k c.args.event c.args.budget c.args.first.now c.args.book.now.entries b.entries) (sym c.in_err-put_mark-2.ensures.err)
     (left_open c.args.net.now c.args.log.now c.ask.new.parts.step.steps c.args.k c.args.event c.args.budget c.ask.new.left c.args.first.now c.args.book.now.entries c.put_mark.new.self.entries c.ask.new.book.entries
     (ap (λ (b : LedgerState). b.entries) c.in_ok-put_mark.ensures.added) c.ask.ensures.searching
-    (subst (λ steps. EndsWithoutVerdict c.args.net.now c.args.log.now c.ask.new.parts.step.steps c.args.k c.args.event steps c.put_mark.new.self.entries c.ask.new.book.entries) c.steps.ensures.steps (unanswered_shown _ _ _ _ _ _ _ _ _ _ _ c.in_ok-verdict.ensures.asked)))
+    (subst (λ steps. EndsWithoutVerdict c.args.net.now c.args.log.now c.ask.new.parts.step.steps c.args.k c.args.event steps c.put_mark.new.self.entries c.ask.new.book.entries) c.steps.ensures.steps (unanswered_shown _ _ _ _ _ _ _ _ _ _ c.in_ok-verdict.ensures.asked)))
     )
 
 pub returns-in_err-verdict-clause-unmade : goal.returns-in_err-verdict-clause-unmade

@@ -17,7 +17,7 @@ returns-clause-diagnosed g c =
     let old = c.args.book.now.entries in
     let book = c.least-found.new.book.entries in
     ok_weaker c.least-found.result (IsAnswered (meanings_of_parts later) (built_of parts old) net log later.step.steps c.args.budget old book) (IsDiagnosed net log parts.step.steps c.args.budget book)
-    (λ found. diagnosed_begun (goal.R-pre g) (goal.R-post g) net log parts later old book c.requires.begun c.least-found.ensures.kept c.args.budget found c.entries.ensures.valid) c.least-found.ensures.answered
+    (λ found. diagnosed_begun (goal.R-pre g) (goal.R-post g) net log parts later old book c.requires.begun c.least-found.ensures.kept c.args.budget found c.is_valid.ensures) c.least-found.ensures.answered
 
 pub returns-clause-evidence : goal.returns-clause-evidence
 returns-clause-evidence g c =
@@ -34,4 +34,4 @@ returns-clause-evidence g c =
 
 pub returns-clause-left : goal.returns-clause-left
 returns-clause-left g c =
-    search_left (goal.R-pre g) (goal.R-post g) c.args.case.now.net c.args.case.now.log c.args.parts.now c.least-found.new.parts c.args.book.now.entries c.least-found.new.book.entries c.requires.begun c.least-found.ensures.kept c.args.budget c.least-found.result c.least-found.ensures.grown c.least-found.ensures.answered c.least-found.ensures.unanswered c.entries.ensures.valid
+    search_left (goal.R-pre g) (goal.R-post g) c.args.case.now.net c.args.case.now.log c.args.parts.now c.least-found.new.parts c.args.book.now.entries c.least-found.new.book.entries c.requires.begun c.least-found.ensures.kept c.args.budget c.least-found.result c.least-found.ensures.grown c.least-found.ensures.answered c.least-found.ensures.unanswered c.is_valid.ensures

@@ -1,7 +1,7 @@
 use Rattle.std.proofs.Common.{◌∙◌, ◌+◌, ◌*◌, ◌++◌, List, map, length, ap, arith, subst, sym}
 use Rattle.card_counter.proofs.States.{made_later}
 use Rattle.least_faults.proofs.Drafts.{axioms_few, built_added, clauses_built, draft_added, few_added, inputs_may_count, variables_fit}
-use Rattle.least_faults.proofs.Freshness.{known_after}
+use Rattle.sat_solve.proofs.Freshness.{known_after}
 use Rattle.least_faults.proofs.adding.add_draft.Goals as goal
 use Rattle.least_faults.specs.Adding.{input_count}
 use Rattle.proof_ledger.specs.Book.{axiomatic, axioms_of}

@@ -7,7 +7,7 @@ use Rattle.least_faults.proofs.asking.ask.Goals as goal
 use Rattle.step_encode.specs.Coded.{CodedSteps}
 
 pub returns-in-Unsat-clause-asked : goal.returns-in-Unsat-clause-asked
-returns-in-Unsat-clause-asked g c = shown_refuted _ _ c.args.parts.now c.solve.new.parts _ _ c.args.within c.args.book.now.entries c.solve.new.book.entries _ _ _ c.solve.ensures.goes_on.ready c.solve.ensures.goes_on.kept c.requires.belong c.is_built.ensures.network c.is_whole.ensures.whole.valid c.in_ok-answer.ensures.solved c.in-Unsat.field-0 c.in-Unsat.is c.entries.ensures.valid
+returns-in-Unsat-clause-asked g c = shown_refuted _ _ c.args.parts.now c.solve.new.parts _ _ c.args.within c.args.book.now.entries c.solve.new.book.entries _ _ _ c.solve.ensures.goes_on.ready c.solve.ensures.goes_on.kept c.requires.belong c.is_built.ensures.network c.is_whole.ensures.whole.valid c.in_ok-answer.ensures.solved c.in-Unsat.field-0 c.in-Unsat.is c.is_valid.ensures
 
 pub returns-in-Spent-clause-asked : goal.returns-in-Spent-clause-asked
 returns-in-Spent-clause-asked g c = shown_spent _ _ c.args.parts.now c.solve.new.parts _ _ c.args.within c.args.book.now.entries c.solve.new.book.entries _ _ _ c.solve.ensures.goes_on.ready c.solve.ensures.goes_on.kept c.requires.belong c.is_built.ensures.network c.is_whole.ensures.whole.valid c.in_ok-answer.ensures.solved c.in-Spent.is

@@ -6,9 +6,10 @@ use Rattle.least_faults.proofs.Staying.{question_same}
 use Rattle.least_faults.proofs.asking.assumptions.Goals as goal
 use Rattle.least_faults.proofs.asking.assumptions.Goals.{in-Some+in_ok-bound+in_ok-push, in_default}
 use Rattle.least_faults.specs.Asking.{AreAssumed}
-use Rattle.least_faults.specs.Growing.{AddsAxioms, KeepsQuestion}
+use Rattle.least_faults.specs.Growing.{KeepsQuestion}
 use Rattle.least_faults.specs.Parts.{AreReady}
 use Rattle.least_faults.specs.declared.parts.Parts.{Parts}
+use Rattle.sat_solve.specs.Leaving.{AddsAxioms}
 
 pub returns-in_err-extend_from_slice-clause-kept : goal.returns-in_err-extend_from_slice-clause-kept
 returns-in_err-extend_from_slice-clause-kept g c = question_same c.args.parts.now c.args.book.now.entries

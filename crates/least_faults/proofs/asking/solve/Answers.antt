@@ -1,8 +1,9 @@
 use Rattle.des_base.proofs.Results.{on_err}
 use Rattle.std.proofs.lemmas.Result.{on_err_weaker}
-use Rattle.least_faults.proofs.Asked.{axioms_no_final, goes_by_search, learnt_alone, searching_axioms}
+use Rattle.least_faults.proofs.Asked.{goes_by_search}
 use Rattle.least_faults.proofs.Solved.{can_search, solved}
 use Rattle.least_faults.proofs.asking.solve.Goals as goal
+use Rattle.sat_solve.proofs.Leaving.{axioms_no_final, searching_axioms, axioms_and_learnt}
 
 pub returns-in_err-assumed-clause-goes_on : goal.returns-in_err-assumed-clause-goes_on
 returns-in_err-assumed-clause-goes_on g c = record {
@@ -29,4 +30,4 @@ pub returns-in_err-assumed-clause-quit : goal.returns-in_err-assumed-clause-quit
 returns-in_err-assumed-clause-quit g c = on_err _ _ (axioms_no_final c.args.book.now.entries c.assumptions.new.book.entries c.assumptions.ensures.axioms)
 
 pub returns-clause-quit : goal.returns-clause-quit
-returns-clause-quit g c = on_err_weaker c.solve.result (learnt_alone c.args.book.now.entries c.assumptions.new.book.entries c.solve.new.book.entries c.assumptions.ensures.axioms) c.solve.ensures.quit
+returns-clause-quit g c = on_err_weaker c.solve.result (axioms_and_learnt c.args.book.now.entries c.assumptions.new.book.entries c.solve.new.book.entries c.assumptions.ensures.axioms) c.solve.ensures.quit

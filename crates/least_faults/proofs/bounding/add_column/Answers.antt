@@ -1,7 +1,7 @@
 use Rattle.std.proofs.Common.{ap, append-nil, arith, length, ◌∙◌, [], ◌∷◌, refl, subst, sym}
 use Rattle.card_counter.specs.CounterState.{CounterState}
 use Rattle.least_faults.proofs.Columns.{column_added, column_fits, few_written, more_values, written_alone, reserved_ready}
-use Rattle.least_faults.proofs.Freshness.{known_after}
+use Rattle.sat_solve.proofs.Freshness.{known_after}
 use Rattle.least_faults.proofs.Determined.{column_determined}
 use Rattle.least_faults.proofs.Staying.{question_kept}
 use Rattle.proof_ledger.specs.Book.{axioms_of}

@@ -1,7 +1,8 @@
 use Rattle.std.proofs.Common.{◌≡◌, ◌+◌, ◌≤◌, length, max}
 use Rattle.least_faults.proofs.bounding.bound.Given as goal
-use Rattle.least_faults.specs.Growing.{AddsAxioms, KeepsQuestion}
+use Rattle.least_faults.specs.Growing.{KeepsQuestion}
 use Rattle.least_faults.specs.Parts.{AreReadyBeside}
+use Rattle.sat_solve.specs.Leaving.{AddsAxioms}
 
 abbrev pub invariant-loop : goal.invariant-loop
 invariant-loop g l = record {

@@ -16,9 +16,9 @@ returns-clause-priced g c = λ table same.
     let book = c.cheapest-cheap.new.book.entries in
     ok_weaker c.cheapest-cheap.result (HasAnsweredCosts (goal.C-post g) stored net log later c.args.budget old book) (IsPricedBy net (fault_costs net table) log parts.step.steps c.args.budget book)
     (λ cheap found.
-    priced_by (goal.R-pre g) (goal.R-post g) (goal.C-post g) stored net log parts later c.args.budget old book table c.requires.begun c.cheapest-cheap.ensures.kept same cheap found c.entries.ensures.valid) c.cheapest-cheap.ensures.answered
+    priced_by (goal.R-pre g) (goal.R-post g) (goal.C-post g) stored net log parts later c.args.budget old book table c.requires.begun c.cheapest-cheap.ensures.kept same cheap found c.is_valid.ensures) c.cheapest-cheap.ensures.answered
 
 pub returns-clause-left : goal.returns-clause-left
 returns-clause-left g c = λ table same.
     leaves (goal.R-pre g) (goal.R-post g) (goal.C-post g) c.args.costs.now.cost c.args.case.now.net c.args.case.now.log c.args.parts.now c.cheapest-cheap.new.parts c.args.budget c.args.book.now.entries c.cheapest-cheap.new.book.entries table c.requires.begun c.cheapest-cheap.ensures.kept same
-    c.cheapest-cheap.result c.cheapest-cheap.ensures.answered c.cheapest-cheap.ensures.unanswered c.entries.ensures.valid
+    c.cheapest-cheap.result c.cheapest-cheap.ensures.answered c.cheapest-cheap.ensures.unanswered c.is_valid.ensures

@@ -21,4 +21,4 @@ returns-clause-left g c question =
     (grown_from net c.new-2.result.matter c.args.budget c.new-2.result.book c.args.book.now.entries c.tell_all-told.new.teller.judge.book c.into_book.result.entries (ap (λ (m : _). m.budget) matter) begins c.into_book.ensures.book c.tell_all-told.ensures.grown)
     (asked_by_judge (goal.R-pre g) (goal.R-post g) net c.args.log.now c.args.parts.step.steps c.tell_all-told.new.teller.judge.matter c.new-2.result.matter c.tell_all-told.new.teller.judge.parts c.tell_all-told.new.teller.judge.book c.into_book.result.entries
     c.tell_all-told.ensures.stays (ap (λ (m : _). m.net) matter) (ap (λ (m : _). m.log) matter) (ap (λ (m : _). m.steps) matter) c.into_book.ensures.belong c.into_book.ensures.steps c.into_book.ensures.book c.tell_all-told.ensures.ready)
-    c.entries.ensures.valid
+    c.is_valid.ensures

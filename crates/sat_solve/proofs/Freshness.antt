@@ -2,8 +2,7 @@
 use Rattle.std.proofs.Common.{◌≡◌, ◌∙◌, ℕ, Bool, true, false, ◌||◌, List, [], ◌∷◌, ◌++◌, map, refl, sym, ap, subst, count_by, append-nil, append_assoc}
 use Rattle.std.proofs.lemmas.List.Folds.{list_any-append}
 use Rattle.std.specs.List.{list_any}
-use Rattle.least_faults.specs.Answers.{HaveLearntFresh}
-use Rattle.least_faults.specs.Growing.{AddsAxioms}
+use Rattle.sat_solve.specs.Leaving.{AddsAxioms, HaveLearntFresh}
 use Rattle.proof_ledger.specs.Book.{BookEntry, axiomatic, mark, axioms_of, clauses_of, EachAfter}
 use Rattle.proof_ledger.specs.Fresh.{AreFresh, is_learnt, IfLearnt, IsFreshClause}
 use Rattle.prop_core.specs.Clauses.{Clause}
