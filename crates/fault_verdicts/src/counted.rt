@@ -34,10 +34,16 @@ fn tries_within<R: Fn(u32) -> u64>(
     parts: &Parts<R>,
     faults: u32,
 ) -> Result<Vec<Lit>, Memory> {
-    let events = fault_list(alloc, net)?.len();
+    let events = fault_list(alloc, net)?;
     let mut tries = Vec::new(alloc);
     for column in 0..faults.min(parts.counter.columns()) {
-        push_column(parts, events, column, column + 1 == faults, &mut tries)?;
+        push_column(
+            parts,
+            events.len(),
+            column,
+            column + 1 == faults,
+            &mut tries,
+        )?;
     }
     Ok(tries)
 }
