@@ -1,0 +1,2 @@
+//! The same plant, written with more components.
+#![tactic(auto)]
