@@ -22,8 +22,8 @@ pub record Follows (net fine : Net) (members : ℕ → Bool) (c d : ℕ) : Type 
   pub starts : (q : ℕ) → CanStart net c q → CanStart fine d (told (members q))
   pub goes : (e q r : ℕ) → CanGo net c e q r → CanGo fine d e (told (members q)) (told (members r))
   pub beside : (e : ℕ) → touches fine e d ≡ true → touches net e c ≡ true
-  pub starts_only : (inside : Bool) → CanStart fine d (told inside) → (q : ℕ) × (members q ≡ inside) × CanStart net c q
-  pub goes_only : (e : ℕ) (before after : Bool) → touches fine e d ≡ true → CanGo fine d e (told before) (told after) → (q : ℕ) × (r : ℕ) × (members q ≡ before) × (members r ≡ after) × CanGo net c e q r
+  pub starts_only : (s : ℕ) → CanStart fine d s → (q : ℕ) × (told (members q) ≡ s) × CanStart net c q
+  pub goes_only : (e s t : ℕ) → touches fine e d ≡ true → CanGo fine d e s t → (q : ℕ) × (r : ℕ) × (told (members q) ≡ s) × (told (members r) ≡ t) × CanGo net c e q r
 
 -- component d follows some set of states of some component of the network
 pub record FollowsSome (net fine : Net) (d : ℕ) : Type 0 where
