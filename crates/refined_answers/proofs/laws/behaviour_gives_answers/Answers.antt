@@ -1,0 +1,5 @@
+use Rattle.refined_answers.proofs.AnswerLemmas.{behaviour_gives_answers}
+use Rattle.refined_answers.proofs.laws.behaviour_gives_answers.Goals as goal
+
+pub returns : goal.returns
+returns c = behaviour_gives_answers
