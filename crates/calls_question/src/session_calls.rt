@@ -1,5 +1,4 @@
 // The calls of a session one by one. What each answers is said by its contract, and what a script's rows come to is among the cases of files.
-ghost use Rattle.std.specs.Prelude.{◌≡◌};
 ghost use Rattle.sat_order.specs.Rank.{IsRanked};
 
 use crate::models::{ModelCase, VALVE, passes_on};

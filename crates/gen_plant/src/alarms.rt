@@ -1,6 +1,5 @@
 // The alarms of the units that trip, in a row.
-ghost use Rattle.std.specs.Prelude.{◌≡◌, ◌≤◌, ◌<◌, ◌%◌, ◌==◌, ◌∷◌, [], None, length, if◌then◌else◌, OnOk};
-ghost use Rattle.log_order.specs.Adding.{alarm_refusal};
+ghost use Rattle.std.specs.Prelude.{◌≡◌, ◌≤◌, ◌<◌, ◌%◌, ◌==◌, if◌then◌else◌, OnOk};
 ghost use Rattle.log_order.specs.Log.{no_log};
 ghost use Rattle.gen_plant.specs.Plant.{most_units, plant_log};
 ghost use Rattle.gen_plant.specs.Stages.{AwaitsAlarm, with_tripped};

@@ -1,5 +1,5 @@
 // A log as a text.
-ghost use Rattle.std.specs.Prelude.{◌≡◌, ◌<◌, ◌++◌, None, length, OnErr, OnOk};
+ghost use Rattle.std.specs.Prelude.{◌≡◌, ◌<◌, ◌++◌, None, OnErr, OnOk};
 ghost use Rattle.std.specs.List.{flat_map, join_with_byte};
 ghost use Rattle.log_csv.specs.LogText.{first_log_fault, log_of};
 ghost use Rattle.log_csv.specs.PrintedLog.{alarm_line, alarm_with, alarm_word, line_of_ids, log_text, pair_line};

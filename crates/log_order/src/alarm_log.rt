@@ -1,5 +1,5 @@
 // A log of alarms, which refuses what doesn't fit and otherwise adds one thing.
-ghost use Rattle.std.specs.Prelude.{◌≡◌, ◌<◌, ◌≤◌, length, slice_get, option_map, not, true, false, IfOk, OnErr, OnOk, Some, None, Err};
+ghost use Rattle.std.specs.Prelude.{◌≡◌, ◌<◌, length, slice_get, option_map, not, true, false, IfOk, OnErr, OnOk, Some, None, Err};
 ghost use Rattle.des_base.specs.Names.{place_of};
 ghost use Rattle.des_base.specs.Refusing.{SucceedsUnless};
 ghost use Rattle.log_order.specs.Log.{no_log, has_pair, ListsOnce, Keeps, IsValidLog, StandOnce};

@@ -1,5 +1,5 @@
 // Marks on numbers below a bound.
-ghost use Rattle.std.specs.Prelude.{◌≡◌, ◌<◌, ◌||◌, ◌++◌, ℕ, All, length, not, IfOk, OnOk};
+ghost use Rattle.std.specs.Prelude.{◌≡◌, ◌<◌, ◌||◌, ◌++◌, ℕ, All, length, not, OnOk};
 ghost use Rattle.std.specs.List.{filter};
 ghost use Rattle.log_order.specs.Precedence.{is_marked, is_in};
 

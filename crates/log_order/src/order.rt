@@ -1,8 +1,8 @@
 // The order of the smallest free alarms.
-ghost use Rattle.std.specs.Prelude.{◌≡◌, ◌<◌, ℕ, ◌^◌, List, [], All, not, length, slice_index_or, IfOk, OnOk};
+ghost use Rattle.std.specs.Prelude.{◌≡◌, ◌<◌, ℕ, ◌^◌, List, [], All, not, length, IfOk, OnOk};
 ghost use Rattle.std.specs.List.{list_all};
 ghost use Rattle.log_order.specs.Precedence.{is_in, is_marked};
-ghost use Rattle.log_order.specs.Order.{first_below, with_next, taken_first, least_order};
+ghost use Rattle.log_order.specs.Order.{first_below, with_next, least_order};
 ghost use Rattle.log_order.specs.Waiting.{AreBefore, is_held_back_in};
 
 use crate::marks::is_marked;

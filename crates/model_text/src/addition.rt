@@ -1,5 +1,5 @@
 // What each line adds to the builder. The codes of a line are tried in their order.
-ghost use Rattle.std.specs.Prelude.{◌≡◌, ◌<◌, Some, length, map, option_map};
+ghost use Rattle.std.specs.Prelude.{◌<◌, Some, length, map, option_map};
 ghost use Rattle.des_net.specs.Building.{IsDraft};
 ghost use Rattle.des_base.specs.CountedLines.{texts_of, tokens_of};
 ghost use Rattle.model_text.specs.ModelLines.{event, model_line, component_line, state_line, transition_line, event_line};

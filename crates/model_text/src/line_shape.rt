@@ -1,6 +1,6 @@
 // How the lines of each keyword are cut into their words.
-ghost use Rattle.std.specs.Prelude.{◌≡◌, ◌<◌, length, None, option_map, option_and_then, IfSome, MatchOption};
-ghost use Rattle.model_text.specs.ModelLines.{component, component_line, state_line, transition_line, event_line, after_name, after_label, after_flags};
+ghost use Rattle.std.specs.Prelude.{◌≡◌, ◌<◌, length, None, option_map, option_and_then, IfSome};
+ghost use Rattle.model_text.specs.ModelLines.{component, component_line, state_line, transition_line, event_line, after_label, after_flags};
 ghost use Rattle.des_base.specs.CountedLines.{texts_of};
 ghost use Rattle.model_text.specs.Shapes.{state_said, transition_said, event_said};
 

@@ -1,5 +1,5 @@
 // The parts of an event, by name.
-ghost use Rattle.std.specs.Prelude.{◌≡◌, ◌&&◌, ◌||◌, false, true, map, length, option_map, IfOk};
+ghost use Rattle.std.specs.Prelude.{◌≡◌, ◌&&◌, ◌||◌, false, true, map, option_map, IfOk};
 ghost use Rattle.std.specs.List.{list_all};
 ghost use Rattle.des_base.specs.Names.{is_name_text};
 ghost use Rattle.model_text.specs.ModelFaults.{has_repeated, stands_in};

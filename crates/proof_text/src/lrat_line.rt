@@ -1,5 +1,5 @@
 // A line of a proof, and the step that it says.
-ghost use Rattle.std.specs.Prelude.{◌≡◌, ◌≤◌, ℕ, option_map, IfOk};
+ghost use Rattle.std.specs.Prelude.{◌≡◌, ◌≤◌, option_map, IfOk};
 ghost use Rattle.des_base.specs.CountedLines.{texts_of, tokens_of};
 ghost use Rattle.proof_text.specs.LratText.{is_deletion_mark};
 ghost use Rattle.proof_text.specs.LineReading.{if_read, ids_section, literals_section, ids_only, literals_and_hints, line_read};

@@ -1,5 +1,5 @@
 // Printing formulas and proofs.
-ghost use Rattle.std.specs.Prelude.{◌≡◌, ◌+◌, ◌<◌, ◌≤◌, ◌^◌, ◌++◌, ◌∷◌, [], All, drop, length, map, codes, flat_map, decimal, vec_len, OnOk, OnErr, IfOk};
+ghost use Rattle.std.specs.Prelude.{◌≡◌, ◌+◌, ◌<◌, ◌^◌, ◌++◌, ◌∷◌, [], All, drop, length, decimal, OnOk, OnErr};
 ghost use Rattle.des_base.specs.Lists.{Extends};
 ghost use Rattle.prop_core.specs.Clauses.{HasValues};
 ghost use Rattle.proof_text.specs.ProofNumbers.{NumbersAscend, HasNoZero};

@@ -1,5 +1,5 @@
 // An assignment of truth values.
-ghost use Rattle.std.specs.Prelude.{◌≡◌, ◌<◌, ◌≤◌, ◌-◌, ◌++◌, [], length, false, replicate, slice_set, Some, OnOk, OnErr, All, IfSome};
+ghost use Rattle.std.specs.Prelude.{◌≡◌, ◌<◌, ◌≤◌, ◌-◌, ◌++◌, [], length, false, replicate, slice_set, OnOk, OnErr, IfSome};
 ghost use Rattle.prop_core.specs.Clauses.{value_in, clause_true, HasValues};
 ghost use Rattle.prop_core.specs.Derivation.{clause_numbered};
 

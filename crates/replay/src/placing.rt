@@ -1,5 +1,5 @@
 // The alarms of a log that have a place in the order of a run.
-ghost use Rattle.std.specs.Prelude.{◌≡◌, ◌<◌, [], ◌∷◌, ◌++◌, length, All, IfOk, IfSome, OnOk, OnErr, false};
+ghost use Rattle.std.specs.Prelude.{◌≡◌, ◌<◌, [], ◌∷◌, ◌++◌, All, IfOk, IfSome, OnOk, OnErr, false};
 ghost use Rattle.log_order.specs.Log.{place_in};
 ghost use Rattle.log_order.specs.Precedence.{is_in};
 ghost use Rattle.replay.specs.Matching.{missing_alarm, wrong_pair};

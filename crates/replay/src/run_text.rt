@@ -1,5 +1,5 @@
 // Reading the text of a run.
-ghost use Rattle.std.specs.Prelude.{◌≡◌, ◌<◌, ◌≤◌, ◌^◌, ℕ, [], ◌∷◌, length, All, IfOk, IfErr, IfSome, OnOk, MatchOption, ⊤, is_none, Some, None, codes, true, if◌then◌else◌};
+ghost use Rattle.std.specs.Prelude.{◌≡◌, ◌<◌, ◌≤◌, ◌^◌, ℕ, [], ◌∷◌, length, All, IfOk, IfErr, IfSome, OnOk, MatchOption, ⊤, is_none, Some, None, true, if◌then◌else◌};
 ghost use Rattle.std.specs.Option.{option_copied, option_to_list};
 ghost use Rattle.std.specs.List.{list_all};
 ghost use Rattle.des_base.specs.Names.{is_name_text};

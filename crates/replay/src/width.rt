@@ -1,9 +1,8 @@
 // How many pieces a run takes.
 ghost use Rattle.std.specs.Prelude.{◌≡◌, ◌<◌, ◌≤◌, ◌==◌, ◌+◌, ◌++◌, ℕ, length, All, IfOk, OnOk, slice_index, if◌then◌else◌};
 ghost use Rattle.std.specs.List.{list_any};
-ghost use Rattle.des_net.specs.Network.{parts_of, has_part};
+ghost use Rattle.des_net.specs.Network.{has_part};
 ghost use Rattle.des_net.specs.Width.{need};
-ghost use Rattle.des_net.specs.Building.{IsDraft};
 ghost use Rattle.std.specs.Option.{option_to_list};
 ghost use Rattle.replay.specs.Traced.{event_of, word_of};
 

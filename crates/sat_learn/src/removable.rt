@@ -1,5 +1,4 @@
 // Which literals of a clause follow from its others (Sörensson and Biere, "Minimizing learned clauses", 2009).
-ghost use Rattle.std.specs.Prelude.{◌≡◌};
 
 use des_base::Memory;
 use prop_core::{Clauses, Lit};

@@ -1,5 +1,5 @@
 // Variables with the ranks that a closure gives, and which of them wait.
-ghost use Rattle.std.specs.Prelude.{◌≡◌, ◌<◌, ◌≤◌, ◌+◌, ◌-◌, ◌++◌, ◌∷◌, [], true, false, length, max, replicate, slice_set, OnOk, OnErr, IfSome, IfNone};
+ghost use Rattle.std.specs.Prelude.{◌≡◌, ◌<◌, ◌≤◌, ◌+◌, ◌-◌, ◌++◌, [], true, false, length, max, replicate, slice_set, OnOk, OnErr, IfSome, IfNone};
 ghost use Rattle.sat_order.specs.Waiting.{IsNext, NoneWaits};
 ghost use Rattle.sat_order.specs.Rank.{IsRank, IsRanked, IsNextByRank};
 

@@ -11,9 +11,11 @@
 //!   neither false nor unit where the later one isn't.
 #![tactic(auto)]
 
+mod attachment;
 mod propagator;
 mod recent;
 mod standing;
+mod subsumption;
 mod trail;
 mod watch_lists;
 mod watched;

@@ -57,6 +57,15 @@ impl Propagator {
         }
     }
 
+    /// What holds of each propagator: its trail is one, and has room.
+    pub fn is_sound(&self)
+        ensures state { IsTrailState self.now }
+        ensures room { length self.now.literals ≤ self.now.vars }
+        ensures spare { self.now.spare < 2 ^ 63 }
+    {
+        self.trail().is_sound();
+    }
+
     /// The trail as it stands.
     pub fn trail(&self) -> &Trail
         ensures { result.now ≡ self.now }

@@ -1,5 +1,5 @@
 // The trail: the literals that are true, in their order, each decided or forced by a clause.
-ghost use Rattle.std.specs.Prelude.{◌≡◌, ℕ, ◌<◌, ◌≤◌, ◌+◌, ◌-◌, ◌^◌, ◌++◌, ◌∷◌, [], List, length, max, take, true, false, Some, None, Contains, slice_get, slice_set, slice_index, vec_len, vec_capacity, OnOk, OnErr, IfSome};
+ghost use Rattle.std.specs.Prelude.{◌≡◌, ℕ, ◌<◌, ◌≤◌, ◌+◌, ◌-◌, ◌^◌, ◌++◌, ◌∷◌, [], List, length, max, take, true, false, Some, None, Contains, slice_get, slice_set, vec_len, vec_capacity, OnOk, OnErr, IfSome};
 ghost use Rattle.prop_core.specs.declared.lit.Lit.{Lit};
 ghost use Rattle.prop_core.specs.Derivation.{clause_numbered, unit};
 ghost use Rattle.prop_core.specs.Clauses.{is_open, is_true, negation, HasValues};

@@ -1,5 +1,5 @@
 // The watches of each literal, in lists that are linked by numbers.
-ghost use Rattle.std.specs.Prelude.{◌≡◌, ◌≢◌, ◌↔◌, ℕ, ◌+◌, ◌-◌, ◌<◌, ◌≤◌, List, ◌++◌, ◌∷◌, [], length, max, slice_set, vec_len, vec_capacity, OnOk, OnErr, IfSome, IfNone, IsTrue};
+ghost use Rattle.std.specs.Prelude.{◌≡◌, ◌≢◌, ◌↔◌, ℕ, ◌+◌, ◌-◌, ◌<◌, ◌≤◌, ◌++◌, ◌∷◌, [], length, max, slice_set, vec_len, vec_capacity, OnOk, OnErr, IfSome, IfNone, IsTrue};
 ghost use Rattle.prop_core.specs.LiteralNumbers.{literal_number};
 ghost use Rattle.sat_prop.specs.declared.watch_lists.TheConstants.{NO_CLAUSE};
 ghost use Rattle.sat_prop.specs.Watches.{IsFirstDropped, IsFirstWaiting, IsLive, IsOpened, MovesWatch, PassesWatch, alone, appended, ends_of, no_lists, twin_number, with_ends, with_next_watch, node_at, other_literal, unlinked, watch_at, cleared, with_watched_clause, without_clause};

@@ -1,18 +1,17 @@
 // Propagation by watched literals: a clause is looked at when one of its two watched literals becomes false. A clause that a later learnt one
 // subsumes is no longer watched.
-ghost use Rattle.std.specs.Prelude.{◌≡◌, ◌≢◌, ◌↔◌, ◌+◌, ◌<◌, ◌≤◌, ◌||◌, ◌⊎◌, [], true, false, length, max, min, take, Some, Contains, OnOk, OnErr, IfSome, IfNone, IsTrue};
+ghost use Rattle.std.specs.Prelude.{◌≡◌, ◌+◌, ◌<◌, ◌≤◌, ◌||◌, ◌⊎◌, true, false, length, max, min, take, Some, Contains, OnOk, OnErr, IfSome, IfNone};
 ghost use Rattle.std.specs.List.{list_any, list_all};
-ghost use Rattle.prop_core.specs.Clauses.{same_literal, is_false, is_true, HasValues};
+ghost use Rattle.prop_core.specs.Clauses.{same_literal, is_false, is_true};
 ghost use Rattle.prop_core.specs.Derivation.{clause_numbered};
 ghost use Rattle.prop_core.specs.Trail.{is_forced_by};
-ghost use Rattle.sat_prop.specs.Quiet.{AreQuiet, IsConflict, IsPropagated, JoinsQuietly};
-ghost use Rattle.sat_prop.specs.Kept.{IsTrailState};
-ghost use Rattle.sat_prop.specs.Changes.{IsFront, Propagates, with_attached_clause, with_true_literal};
+ghost use Rattle.sat_prop.specs.Quiet.{AreQuiet, IsConflict, IsPropagated};
+ghost use Rattle.sat_prop.specs.Changes.{IsFront, Propagates, with_true_literal};
 ghost use Rattle.sat_prop.specs.Watches.{IsFirstWaiting, IsLive};
-ghost use Rattle.sat_prop.specs.Watching.{AreWatched, AreVisited, IsVisiting, Visits, AreTwo, IsForcing, IsInspectedWatch, IsSubsumed, OnlyDrops, IsReplacement, IsReplaced, IsNarrow, is_part_of, no_watched, unwatched};
+ghost use Rattle.sat_prop.specs.Watching.{AreWatched, AreVisited, IsVisiting, Visits, IsInspectedWatch, IsReplacement, IsReplaced, no_watched};
 
 use crate::propagator::Propagated;
-use crate::recent::{RECENT, Recent, RecentClause, may_be_part, signature};
+use crate::recent::Recent;
 use crate::standing::Stands;
 use crate::trail::Trail;
 use crate::watch_lists::WatchLists;
@@ -25,11 +24,11 @@ use std::marker::Model;
 /// level 0. The first `seen` literals have been looked at.
 #[derive(Drop)]
 pub struct Watched {
-    short: Vec<ClauseId>,
-    spare: usize,
-    lists: WatchLists,
-    seen: u32,
-    recent: Recent,
+    pub(crate) short: Vec<ClauseId>,
+    pub(crate) spare: usize,
+    pub(crate) lists: WatchLists,
+    pub(crate) seen: u32,
+    pub(crate) recent: Recent,
 }
 
 impl Model for Watched {
@@ -81,127 +80,6 @@ impl Watched {
         self.short.reserve(self.spare.max(clauses))?;
         self.spare = self.spare.max(clauses);
         self.lists.reserve(clauses)
-    }
-
-    /// Watches a clause that is to be attached, or keeps it among the short ones. What becomes false of the watched literals
-    /// is looked at after this, again if need be.
-    pub fn attach(&mut self, trail: &Trail, db: &Clauses, id: ClauseId)
-        requires watched { AreWatched trail.now self.old }
-        requires room { 1 ≤ trail.now.spare }
-        requires grown { IsFront trail.now.clauses db.now.clauses }
-        requires from_one { 1 ≤ id }
-        requires in_range { id ≤ length db.now.clauses }
-        requires known { IfSome (clause_numbered db.now.clauses id) (HasValues trail.now.vars) }
-        ensures { AreWatched (with_attached_clause trail.now db.now.clauses id) self.new }
-    {
-        trail.is_sound();
-        match two_literals(trail, db.clause(id)) {
-            Some((first, second)) => {
-                self.lists.add(db.number(id), first, second);
-                let falls = trail.falls(first).min(trail.falls(second));
-                self.seen = self.seen.min(falls);
-            }
-            None => {
-                self.short.push(id).unwrap();
-                self.spare -= 1;
-            }
-        }
-    }
-
-    /// Watches a learnt clause, and attaches it to the trail too. If it has one open literal and the literals that have been looked at make all others
-    /// false, that one is made true, so that nothing has to be looked at again. Those of the clauses that joined last that it subsumes are no longer watched.
-    pub fn join(&mut self, trail: &mut Trail, db: &Clauses, id: ClauseId)
-        requires watched { AreWatched trail.old self.old }
-        requires room { 1 ≤ trail.old.spare }
-        requires grown { IsFront trail.old.clauses db.now.clauses }
-        requires from_one { 1 ≤ id }
-        requires in_range { id ≤ length db.now.clauses }
-        requires known { IfSome (clause_numbered db.now.clauses id) (HasValues trail.old.vars) }
-        requires quiet { JoinsQuietly trail.old (clause_numbered db.now.clauses id) }
-        ensures watched { AreWatched trail.new self.new }
-        ensures state { IsTrailState (with_attached_clause trail.old db.now.clauses id) }
-        ensures grown { Propagates (with_attached_clause trail.old db.now.clauses id) trail.new }
-    {
-        let learnt = RecentClause {
-            watch: self.lists.len(),
-            signature: signature(db.clause(id)),
-        };
-        self.add_learnt(trail, db, id);
-        self.drop_each_subsumed(trail, db, learnt);
-        self.recent.put(learnt);
-    }
-
-    // Attaches a clause to the trail too, and makes true what it forces, as `join` says.
-    fn add_learnt(&mut self, trail: &mut Trail, db: &Clauses, id: ClauseId)
-        requires watched { AreWatched trail.old self.old }
-        requires room { 1 ≤ trail.old.spare }
-        requires grown { IsFront trail.old.clauses db.now.clauses }
-        requires from_one { 1 ≤ id }
-        requires in_range { id ≤ length db.now.clauses }
-        requires known { IfSome (clause_numbered db.now.clauses id) (HasValues trail.old.vars) }
-        requires quiet { JoinsQuietly trail.old (clause_numbered db.now.clauses id) }
-        ensures watched { AreWatched trail.new self.new }
-        ensures state { IsTrailState (with_attached_clause trail.old db.now.clauses id) }
-        ensures grown { Propagates (with_attached_clause trail.old db.now.clauses id) trail.new }
-    {
-        match forcing(trail, db.clause(id), self.seen) {
-            Some((first, second)) => {
-                self.lists.add(db.number(id), first, second);
-                trail.attach(db, id);
-                trail.is_sound();
-                trail.force(db, id, first);
-            }
-            None => {
-                self.attach(trail, db, id);
-                trail.attach(db, id);
-                trail.is_sound();
-            }
-        }
-    }
-
-    // Stops watching those of the clauses that joined last that the newer one subsumes.
-    fn drop_each_subsumed(&mut self, trail: &Trail, db: &Clauses, newer: RecentClause)
-        requires watched { AreWatched trail.now self.old }
-        requires grown { IsFront trail.now.clauses db.now.clauses }
-        ensures watched { AreWatched trail.now self.new }
-        ensures drops { OnlyDrops self.old self.new }
-    {
-        for place in 0..RECENT {
-            let older = self.recent.at(place);
-            if may_be_part(newer.signature, older.signature) {
-                self.drop_subsumed(trail, db, older.watch, newer.watch);
-            }
-        }
-    }
-
-    // Stops watching the clause of one watch if the clause of another watch subsumes it, and is a different one.
-    fn drop_subsumed(&mut self, trail: &Trail, db: &Clauses, older: u32, newer: u32)
-        requires watched { AreWatched trail.now self.old }
-        requires grown { IsFront trail.now.clauses db.now.clauses }
-        ensures watched { AreWatched trail.now self.new }
-        ensures kept { (self.new ≡ self.old) ⊎ (self.new ≡ unwatched self.old older) }
-        ensures dropped { IsSubsumed trail.now.clauses self.old.lists.watches older newer → self.new ≡ unwatched self.old older }
-    {
-        if !self.is_subsumed(trail, db, older, newer) {
-            return;
-        }
-        self.lists.drop_clause(older);
-    }
-
-    // Whether the clause of the newer watch subsumes that of the older one, and is another clause; both are watched.
-    fn is_subsumed(&self, trail: &Trail, db: &Clauses, older: u32, newer: u32) -> bool
-        requires watched { AreWatched trail.now self.now }
-        requires grown { IsFront trail.now.clauses db.now.clauses }
-        ensures { IsTrue result ↔ IsSubsumed trail.now.clauses self.now.lists.watches older newer }
-    {
-        let Some(outer) = self.lists.clause(older) else {
-            return false;
-        };
-        let Some(inner) = self.lists.clause(newer) else {
-            return false;
-        };
-        trail.is_sound();
-        subsumes_another(db, inner, outer)
     }
 
     /// Only the first `len` literals are left.
@@ -436,46 +314,8 @@ fn make_true(trail: &mut Trail, db: &Clauses, id: ClauseId, lit: Lit) -> bool
     }
 }
 
-// Whether a clause subsumes another one, by their numbers.
-fn subsumes_another(db: &Clauses, inner: u32, outer: u32) -> bool
-    requires inner_from_one { 1 ≤ inner }
-    requires inner_in_range { inner ≤ length db.now.clauses }
-    requires outer_from_one { 1 ≤ outer }
-    requires outer_in_range { outer ≤ length db.now.clauses }
-    ensures another { IsTrue result → inner ≢ outer }
-    ensures part { inner ≢ outer → IfSome (clause_numbered db.now.clauses inner) (λ part. IfSome (clause_numbered db.now.clauses outer) (λ whole. result ≡ is_part_of part whole)) }
-{
-    let part = db.clause(ClauseId(inner as u64));
-    let whole = db.clause(ClauseId(outer as u64));
-    inner != outer && is_part(part, whole)
-}
-
-// Whether each literal of a clause stands in another one.
-fn is_part(inner: &[Lit], outer: &[Lit]) -> bool
-    ensures { result ≡ is_part_of inner.now outer.now }
-{
-    for lit in inner {
-        if !has_literal(outer, *lit) {
-            return false;
-        }
-    }
-    true
-}
-
-// Whether a literal stands in a clause.
-fn has_literal(clause: &[Lit], lit: Lit) -> bool
-    ensures { result ≡ list_any (same_literal lit) clause.now }
-{
-    for other in clause {
-        if lit == *other {
-            return true;
-        }
-    }
-    false
-}
-
 // A literal of the clause, not the other one that is watched, that no literal up to a place makes false.
-fn replacement(trail: &Trail, clause: &[Lit], other: Lit, place: u32) -> Option<Lit>
+pub fn replacement(trail: &Trail, clause: &[Lit], other: Lit, place: u32) -> Option<Lit>
     ensures some { IfSome result (IsReplacement trail.now.literals clause.now other place) }
     ensures none { IfNone result (list_all (λ l. same_literal other l || is_false (take (place + 1) trail.now.literals) l) clause.now ≡ true) }
 {
@@ -485,57 +325,4 @@ fn replacement(trail: &Trail, clause: &[Lit], other: Lit, place: u32) -> Option<
         }
     }
     None
-}
-
-// An open literal of a clause and one that became false last, where all but the open one became so by the first `seen` literals.
-fn forcing(trail: &Trail, clause: &[Lit], seen: u32) -> Option<(Lit, Lit)>
-    ensures { IfSome result (λ two. IsForcing trail.now.literals clause.now seen two.0 two.1) }
-{
-    trail.is_sound();
-    let (first, second) = two_literals(trail, clause)?;
-    let place = trail.falls(second);
-    if trail.value(first.var).is_some() || place >= seen {
-        return None;
-    }
-    if replacement(trail, clause, first, place).is_some() {
-        return None;
-    }
-    Some((first, second))
-}
-
-// Two different literals of a clause, if it has two: preferably ones that aren't false, and else those that became false last, so that
-// little has to be looked at again.
-fn two_literals(trail: &Trail, clause: &[Lit]) -> Option<(Lit, Lit)>
-    ensures two { IfSome result (λ two. AreTwo clause.now two.0 two.1) }
-    ensures none { IfNone result (IsNarrow clause.now) }
-{
-    let first = latest(trail, clause, None)?;
-    let second = latest(trail, clause, Some(first))?;
-    Some((first, second))
-}
-
-// A literal of a clause that isn't false, or else the one that became false last. One literal may be left out.
-fn latest(trail: &Trail, clause: &[Lit], but: Option<Lit>) -> Option<Lit>
-    ensures among { IfSome result (λ l. list_any (same_literal l) clause.now ≡ true) }
-    ensures other { IfSome result (λ l. IfSome but (λ b. same_literal b l ≡ false)) }
-    ensures empty { IfNone result (IfNone but (clause.now ≡ [])) }
-    ensures alone { IfNone result (IfSome but (λ b. list_all (same_literal b) clause.now ≡ true)) }
-{
-    let mut best: Option<Lit> = None;
-    for lit in clause {
-        if but != Some(*lit) && is_later(trail, best, *lit) {
-            best = Some(*lit);
-        }
-    }
-    best
-}
-
-// Whether a literal became false later than the best so far.
-fn is_later(trail: &Trail, best: Option<Lit>, lit: Lit) -> bool
-    ensures { IfNone best (result ≡ true) }
-{
-    match best {
-        Some(best) => trail.falls(best) < trail.falls(lit),
-        None => true,
-    }
 }

@@ -10,7 +10,7 @@ ghost use Rattle.sat_prop.specs.Changes.{IsKeptUpTo};
 ghost use Rattle.sat_solve.specs.Solving.{IsSound, IsUnderWay, KeepsVariables, KeepsWaiting, next_level_of};
 
 use crate::advice::Advice;
-use crate::ending::{assumed_level, trail_state};
+use crate::assumptions::assumed_level;
 use crate::search::Search;
 use prop_core::Lit;
 use sat_order::Order;
@@ -26,7 +26,7 @@ impl<R: Fn(u32) -> u64> Search<R> {
         ensures kept { KeepsVariables self.old self.new }
         ensures taken { self.new.taken ≡ 0 }
     {
-        trail_state(&self.propagator);
+        self.propagator.is_sound();
         unassign_above(
             self.propagator.trail(),
             &mut self.order,
@@ -45,7 +45,7 @@ impl<R: Fn(u32) -> u64> Search<R> {
         ensures trail { IsKeptUpTo self.old.propagator self.new.propagator (next_level_of self.old.advice.means self.old.propagator assumptions.now) }
         ensures under_way { (book : List BookEntry) → IsUnderWay assumptions.now self.old book → IsUnderWay assumptions.now self.new book }
     {
-        trail_state(&self.propagator);
+        self.propagator.is_sound();
         let level = next_level(self.propagator.trail(), &mut self.advice, assumptions);
         self.backtrack(level);
     }

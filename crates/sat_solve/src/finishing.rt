@@ -4,7 +4,7 @@ ghost use Rattle.proof_ledger.specs.Book.{clauses_of};
 ghost use Rattle.sat_solve.specs.Solving.{IsSound, IsAtRest, IsUnfinished, KeepsVariables, AreTrailValues};
 
 use crate::answer::Answer;
-use crate::ending::makes_true;
+use crate::assumptions::makes_true;
 use crate::search::Search;
 use des_base::{Memory, VAR_LIMIT};
 use proof_ledger::Ledger;

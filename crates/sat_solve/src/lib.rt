@@ -10,15 +10,16 @@
 mod activity;
 mod advice;
 mod answer;
+mod assumptions;
 mod backtracking;
 mod deciding;
-mod ending;
 mod finishing;
 mod first_tries;
 mod heap;
 mod laws;
 mod levels;
 mod marks;
+mod refuting;
 mod restarts;
 mod search;
 mod solver;

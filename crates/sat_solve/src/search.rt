@@ -1,7 +1,6 @@
 // A search by clause learning (Marques-Silva and Sakallah, "GRASP: a new search algorithm for satisfiability", 1996): propagation, and then
 // a decision, or at a conflict a learnt clause and the way back.
 ghost use Rattle.std.specs.Prelude.{◌≡◌, ℕ, ◌<◌, ◌+◌, IfOk, IfSome, IfNone, OnOk, OnErr};
-ghost use Rattle.proof_ledger.specs.Book.{BookEntry};
 ghost use Rattle.sat_prop.specs.Levels.{level_of};
 ghost use Rattle.sat_prop.specs.Quiet.{IsConflict, AreQuiet};
 ghost use Rattle.sat_solve.specs.Searching.{HasLearnt, IsSearched};
@@ -9,8 +8,8 @@ ghost use Rattle.sat_solve.specs.Solving.{IsUnder, IsOver, IsUnderWay, KeepsVari
 
 use crate::advice::Advice;
 use crate::answer::Answer;
+use crate::assumptions::{further_decision, lasting_level, makes_true, next_assumption};
 use crate::deciding::pick;
-use crate::ending::{further_decision, lasting_level, makes_true, next_assumption, trail_state};
 use des_base::Memory;
 use proof_ledger::Ledger;
 use prop_core::{ClauseId, Lit};
@@ -72,9 +71,9 @@ impl<R: Fn(u32) -> u64> Search<R> {
         ensures err { OnErr result (IsOver self.new book.new.entries) }
         ensures unput { OnErr result (book.new.entries ≡ book.old.entries) }
     {
-        trail_state(&self.propagator);
+        self.propagator.is_sound();
         let found = self.propagator.propagate(book.clauses());
-        trail_state(&self.propagator);
+        self.propagator.is_sound();
         match found {
             Propagated::Conflict(id) => self.at_conflict(book, id, assumptions, budget),
             Propagated::Quiet => self.at_rest(book, assumptions),
@@ -99,7 +98,7 @@ impl<R: Fn(u32) -> u64> Search<R> {
         ensures err { OnErr result (IsOver self.new book.new.entries) }
         ensures unput { OnErr result (book.new.entries ≡ book.old.entries) }
     {
-        trail_state(&self.propagator);
+        self.propagator.is_sound();
         match further_decision(self.propagator.trail(), assumptions) {
             None => {
                 let last = self.fail_by_conflict(book, conflict, assumptions)?;
@@ -132,7 +131,7 @@ impl<R: Fn(u32) -> u64> Search<R> {
         ensures learnt { OnOk result (LearnsOne book.old.entries book.new.entries budget.old budget.new) }
         ensures unput { OnErr result (book.new.entries ≡ book.old.entries) }
     {
-        trail_state(&self.propagator);
+        self.propagator.is_sound();
         self.propagator.reserve_clauses(self.spare + 1)?;
         let trail = self.propagator.trail();
         self.learner
@@ -149,7 +148,7 @@ impl<R: Fn(u32) -> u64> Search<R> {
         );
         self.backtrack(learnt.level);
         self.propagator.join(book.clauses(), id);
-        trail_state(&self.propagator);
+        self.propagator.is_sound();
         Ok(())
     }
 
@@ -164,7 +163,7 @@ impl<R: Fn(u32) -> u64> Search<R> {
         ensures err { OnErr result (IsOver self.new book.new.entries) }
         ensures unput { OnErr result (book.new.entries ≡ book.old.entries) }
     {
-        trail_state(&self.propagator);
+        self.propagator.is_sound();
         let trail = self.propagator.trail();
         match next_assumption(trail, assumptions, &mut self.taken) {
             Some(lit) if makes_true(trail, lit.negated()) => {

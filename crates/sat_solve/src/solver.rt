@@ -1,5 +1,5 @@
 // A solver, which adopts the clauses of a book and searches on them under assumptions.
-ghost use Rattle.std.specs.Prelude.{◌≡◌, ℕ, ◌<◌, ◌≤◌, ◌+◌, ◌-◌, [], length, take, drop, true, false, IfOk, OnOk, OnErr};
+ghost use Rattle.std.specs.Prelude.{◌≡◌, ◌<◌, ◌≤◌, ◌+◌, ◌-◌, [], length, drop, IfOk, OnOk, OnErr};
 ghost use Rattle.std.specs.List.{AllByRecursion};
 ghost use Rattle.prop_core.specs.Clauses.{HasValues, AreConsistent};
 ghost use Rattle.proof_ledger.specs.Book.{clauses_of};
@@ -11,7 +11,6 @@ ghost use Rattle.sat_solve.specs.Solving.{HasReserved, IsUnreserved, KeepsSize, 
 
 use crate::advice::Advice;
 use crate::answer::Answer;
-use crate::ending::trail_state;
 use crate::search::Search;
 use des_base::{Memory, VAR_LIMIT};
 use proof_ledger::Ledger;
@@ -153,9 +152,9 @@ impl<R: Fn(u32) -> u64> Solver<R> {
         ensures adopted { self.new.adopted ≡ clauses_of book.new.entries }
         ensures kept { KeepsSize self.old self.new }
     {
-        trail_state(&self.search.propagator);
+        self.search.propagator.is_sound();
         let found = self.search.run(book, assumptions, budget);
-        trail_state(&self.search.propagator);
+        self.search.propagator.is_sound();
         self.search.finish(book, &found, &mut self.assignment);
         self.clauses = book.clauses().len();
         found
@@ -180,7 +179,7 @@ fn attach_from(propagator: &mut Propagator, db: &Clauses, first: u64)
     requires undecided { level_of propagator.old.reasons ≡ 0 }
     ensures { HasAttached propagator.old propagator.new db.now.clauses }
 {
-    trail_state(propagator);
+    propagator.is_sound();
     for before in first..db.len() {
         propagator.attach(db, ClauseId(before + 1));
     }

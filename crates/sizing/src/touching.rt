@@ -1,5 +1,5 @@
 // How many events touch each component.
-ghost use Rattle.std.specs.Prelude.{◌≡◌, ◌<◌, ◌≤◌, ◌+◌, ◌^◌, ℕ, All, false, if◌then◌else◌, length, slice_index_or};
+ghost use Rattle.std.specs.Prelude.{◌≡◌, ◌<◌, ◌+◌, ◌^◌, ℕ, All, false, if◌then◌else◌, length, slice_index_or};
 ghost use Rattle.des_net.specs.Building.{repeats};
 ghost use Rattle.des_net.specs.Network.{has_part};
 ghost use Rattle.des_net.specs.QuestionSize.{touching_count};

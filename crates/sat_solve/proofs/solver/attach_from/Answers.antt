@@ -15,7 +15,7 @@ attach-requires-clause-known c =
 pub attach-requires-clause-quiet : goal.attach-requires-clause-quiet
 attach-requires-clause-quiet c = λ place b n.
     let i = c.loop-before.invariant in
-    let same : length c.loop-before.propagator.reasons ≡ length c.loop-before.propagator.literals = ap length i.reasons ∙ c.trail_state.ensures.state.justified.same ∙ ap length (sym i.literals) in
+    let same : length c.loop-before.propagator.reasons ≡ length c.loop-before.propagator.literals = ap length i.reasons ∙ c.is_sound.ensures.state.justified.same ∙ ap length (sym i.literals) in
     absurd (level_none c.loop-before.propagator.reasons (ap level_of i.reasons ∙ c.requires.undecided) place (omega arith) n)
 
 pub loop-before-preserved : goal.loop-before-preserved

@@ -12,7 +12,7 @@ returns-in-Some-clause-ended g c =
       put = put_for_spent c.args.book.now.entries;
       found = record {
         nothing = let z = c.if-budget-eq0.true in z;
-        clashes = clash_from c.args.assumptions.now s.vars s.propagator c.args.book.now.entries c.args.conflict c.in-Some.field-0 c.trail_state.ensures.state w.over.sound.serving.joined w.under w.over.clauses c.requires.conflict (rw c.trail.ensures at c.in-Some.ensures.some);
+        clashes = clash_from c.args.assumptions.now s.vars s.propagator c.args.book.now.entries c.args.conflict c.in-Some.field-0 c.is_sound.ensures.state w.over.sound.serving.joined w.under w.over.clauses c.requires.conflict (rw c.trail.ensures at c.in-Some.ensures.some);
       };
       unfinished = w.over.clauses;
     }

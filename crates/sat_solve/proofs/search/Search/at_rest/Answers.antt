@@ -29,10 +29,10 @@ returns-in-Some-2-clause-decided g c =
     let undecided = open_from s.propagator.literals lit n.not_yet (ap (is_true s.propagator.literals) (sym c.negated.ensures) ∙ sym (rw c.trail-trail.ensures at c.makes_true.ensures) ∙ c.if-makes_true.false) in
     record {
       goes_on = record {
-        under_way = under_way_decided c.args.assumptions.now s.taken c.next_assumption.new.taken s.order.waiting s.order.waiting s.vars s.spare s.propagator c.decide.new.self c.args.book.now.entries lit w c.trail_state.ensures.state (rw c.trail-trail.ensures at c.next_assumption.ensures.taken) refl c.decide.ensures known (inl n.among) (λ other b _ o. w.over.sound.waiting_open other b o);
+        under_way = under_way_decided c.args.assumptions.now s.taken c.next_assumption.new.taken s.order.waiting s.order.waiting s.vars s.spare s.propagator c.decide.new.self c.args.book.now.entries lit w c.is_sound.ensures.state (rw c.trail-trail.ensures at c.next_assumption.ensures.taken) refl c.decide.ensures known (inl n.among) (λ other b _ o. w.over.sound.waiting_open other b o);
         learnt = learnt_none c.args.book.now.entries;
       };
-      longer = longer_decided s.propagator c.decide.new.self lit s.vars c.trail_state.ensures.state undecided known w.over.sound.serving.enough c.decide.ensures;
+      longer = longer_decided s.propagator c.decide.new.self lit s.vars c.is_sound.ensures.state undecided known w.over.sound.serving.enough c.decide.ensures;
     }
 
 pub returns-in-Some-pick-clause-decided : goal.returns-in-Some-pick-clause-decided
@@ -45,9 +45,9 @@ returns-in-Some-pick-clause-decided g c =
     let known : choice.var < s.vars = let k = e.known in omega arith in
     record {
       goes_on = record {
-        under_way = under_way_decided c.args.assumptions.now s.taken c.next_assumption.new.taken s.order.waiting c.pick.new.order.waiting s.vars s.spare s.propagator c.decide-in-Some-pick.new.self c.args.book.now.entries choice w c.trail_state.ensures.state (rw c.trail-trail.ensures at c.next_assumption.ensures.taken) c.pick.ensures.kept.variables c.decide-in-Some-pick.ensures
+        under_way = under_way_decided c.args.assumptions.now s.taken c.next_assumption.new.taken s.order.waiting c.pick.new.order.waiting s.vars s.spare s.propagator c.decide-in-Some-pick.new.self c.args.book.now.entries choice w c.is_sound.ensures.state (rw c.trail-trail.ensures at c.next_assumption.ensures.taken) c.pick.ensures.kept.variables c.decide-in-Some-pick.ensures
             known (inr (rw c.trail-trail.ensures at c.in-None.ensures.none)) (λ other b. e.others other (omega arith));
         learnt = learnt_none c.args.book.now.entries;
       };
-      longer = longer_decided s.propagator c.decide-in-Some-pick.new.self choice s.vars c.trail_state.ensures.state (open_var s.propagator.literals (literal_of choice.var false) choice refl e.undecided) known w.over.sound.serving.enough c.decide-in-Some-pick.ensures;
+      longer = longer_decided s.propagator c.decide-in-Some-pick.new.self choice s.vars c.is_sound.ensures.state (open_var s.propagator.literals (literal_of choice.var false) choice refl e.undecided) known w.over.sound.serving.enough c.decide-in-Some-pick.ensures;
     }

@@ -16,7 +16,7 @@ analyse_failed-requires-clause-forced g c =
     let w = room_max s.propagator c.reserve_clauses.new.self (s.spare + 1) c.in_ok-reserve_clauses.ensures.ok in
     let ls = ap (λ (x : TrailState). x.literals) w.same in
     let ws = ap (λ (x : TrailState). x.reasons) w.same in
-    rw (c.trail.ensures, ls, ws) (λ place h. next_forced c.args.assumptions.now s.vars s.propagator c.args.lit c.requires.under_way.under c.trail_state.ensures.state.justified c.requires.next c.requires.false_now place h.within h.at)
+    rw (c.trail.ensures, ls, ws) (λ place h. next_forced c.args.assumptions.now s.vars s.propagator c.args.lit c.requires.under_way.under c.is_sound.ensures.state.justified c.requires.next c.requires.false_now place h.within h.at)
 
 pub returns-in_err-learnt-clause-err : goal.returns-in_err-learnt-clause-err
 returns-in_err-learnt-clause-err g c =

@@ -32,11 +32,11 @@ backtrack-requires-clause-sound g c =
 
 -- just before the clause is attached
 joining : (g : given.Over) (c : goal.After-clauses-2 g) → IsJoining c.args.self.now.spare c.reserve_clauses.new.self c.backtrack.new.self.propagator c.clauses-2.result.now.clauses c.in_ok-learnt.learnt.clause c.in_ok-id.id
-joining g c = joining_from c.args.self.now.spare c.in_ok-learnt.learnt.level c.args.self.now.propagator c.reserve_clauses.new.self c.backtrack.new.self.propagator c.args.book.now.entries c.put_learnt.new.self.entries c.clauses.result.now.clauses c.clauses-2.result.now.clauses c.as_slice.result.now c.in_ok-learnt.learnt.clause c.in_ok-learnt.learnt.hints c.as_slice-2.result.now c.in_ok-id.id c.trail_state.ensures.state c.requires.under_way.over.clauses c.in_ok-reserve_clauses.ensures.ok (rw c.trail-trail.ensures at c.in_ok-learnt.ensures.learnt) c.clauses.ensures.clauses c.backtrack.ensures.trail c.in_ok-id.ensures.added c.as_slice.ensures c.clauses-2.ensures.clauses c.in_ok-id.ensures.id
+joining g c = joining_from c.args.self.now.spare c.in_ok-learnt.learnt.level c.args.self.now.propagator c.reserve_clauses.new.self c.backtrack.new.self.propagator c.args.book.now.entries c.put_learnt.new.self.entries c.clauses.result.now.clauses c.clauses-2.result.now.clauses c.as_slice.result.now c.in_ok-learnt.learnt.clause c.in_ok-learnt.learnt.hints c.as_slice-2.result.now c.in_ok-id.id c.is_sound.ensures.state c.requires.under_way.over.clauses c.in_ok-reserve_clauses.ensures.ok (rw c.trail-trail.ensures at c.in_ok-learnt.ensures.learnt) c.clauses.ensures.clauses c.backtrack.ensures.trail c.in_ok-id.ensures.added c.as_slice.ensures c.clauses-2.ensures.clauses c.in_ok-id.ensures.id
 
 -- the same, at the end
 joined : (g : given.Over) (c : goal.After-drop-learnt-3 g) → IsJoining c.args.self.now.spare c.reserve_clauses.new.self c.backtrack.new.self.propagator c.clauses-2.result.now.clauses c.in_ok-learnt.learnt.clause c.in_ok-id.id
-joined g c = joining_from c.args.self.now.spare c.in_ok-learnt.learnt.level c.args.self.now.propagator c.reserve_clauses.new.self c.backtrack.new.self.propagator c.args.book.now.entries c.put_learnt.new.self.entries c.clauses.result.now.clauses c.clauses-2.result.now.clauses c.as_slice.result.now c.in_ok-learnt.learnt.clause c.in_ok-learnt.learnt.hints c.as_slice-2.result.now c.in_ok-id.id c.trail_state.ensures.state c.requires.under_way.over.clauses c.in_ok-reserve_clauses.ensures.ok (rw c.trail-trail.ensures at c.in_ok-learnt.ensures.learnt) c.clauses.ensures.clauses c.backtrack.ensures.trail c.in_ok-id.ensures.added c.as_slice.ensures c.clauses-2.ensures.clauses c.in_ok-id.ensures.id
+joined g c = joining_from c.args.self.now.spare c.in_ok-learnt.learnt.level c.args.self.now.propagator c.reserve_clauses.new.self c.backtrack.new.self.propagator c.args.book.now.entries c.put_learnt.new.self.entries c.clauses.result.now.clauses c.clauses-2.result.now.clauses c.as_slice.result.now c.in_ok-learnt.learnt.clause c.in_ok-learnt.learnt.hints c.as_slice-2.result.now c.in_ok-id.id c.is_sound.ensures.state c.requires.under_way.over.clauses c.in_ok-reserve_clauses.ensures.ok (rw c.trail-trail.ensures at c.in_ok-learnt.ensures.learnt) c.clauses.ensures.clauses c.backtrack.ensures.trail c.in_ok-id.ensures.added c.as_slice.ensures c.clauses-2.ensures.clauses c.in_ok-id.ensures.id
 
 pub join-requires-clause-grown : goal.join-requires-clause-grown
 join-requires-clause-grown g c = rw (joining g c).whole (front_one c.backtrack.new.self.propagator.clauses c.in_ok-learnt.learnt.clause)
@@ -70,7 +70,7 @@ returns-clause-under_way g c =
     let b = under_way_kept c.args.assumptions.now s.taken t.taken s.order.waiting t.order.waiting s.vars t.vars s.spare t.spare c.in_ok-learnt.learnt.level roomy t.propagator c.args.book.now.entries w j.state c.backtrack.ensures.trail c.backtrack.ensures.sound kept.vars c.backtrack.ensures.taken in
     let attached : TrailState = with_attached_clause t.propagator c.clauses-2.result.now.clauses c.in_ok-id.id in
     let a = under_way_attached c.args.assumptions.now t.taken t.order.waiting t.vars t.spare t.propagator attached c.args.book.now.entries c.put_learnt.new.self.entries c.clauses-2.result.now.clauses c.in_ok-learnt.learnt.clause c.in_ok-id.id b (let r = j.room in let n = kept.spare in omega arith) j.whole j.numbered j.known c.clauses-2.ensures.clauses refl in
-    under_way_grown c.args.assumptions.now t.taken t.order.waiting t.vars t.spare attached c.join.new.self c.put_learnt.new.self.entries a c.join.ensures.grown c.join.ensures.state c.trail_state-2.ensures.state
+    under_way_grown c.args.assumptions.now t.taken t.order.waiting t.vars t.spare attached c.join.new.self c.put_learnt.new.self.entries a c.join.ensures.grown c.join.ensures.state c.is_sound-2.ensures.state
 
 learns : (g : given.Over) (c : goal.After-drop-learnt-3 g) → LearnsOne c.args.book.now.entries c.put_learnt.new.self.entries c.args.budget.now (c.args.budget.now - 1)
 learns g c =

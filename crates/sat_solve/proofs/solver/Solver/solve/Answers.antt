@@ -9,12 +9,12 @@ pub run-found-requires-clause-under : goal.run-found-requires-clause-under
 run-found-requires-clause-under g c =
     let s = c.self.inside.search in
     let same : c.args.self.now.vars ≡ s.vars = sym (ap (λ (x : SolverState _). x.vars) c.self.view_is) in
-    under_none c.args.assumptions.now s.vars s.propagator c.self.invariant.rest.level c.trail_state.ensures.state.justified.same
+    under_none c.args.assumptions.now s.vars s.propagator c.self.invariant.rest.level c.is_sound.ensures.state.justified.same
     (subst (λ (n : ℕ). HasValues n c.args.assumptions.now) same c.requires.known) c.requires.compatible
 
 pub returns-clause-answer : goal.returns-clause-answer
 returns-clause-answer g c =
     let t = c.run-found.new.self in
     let same : c.args.self.now.vars ≡ t.vars = sym (c.run-found.ensures.kept.vars ∙ ap (λ (x : SolverState _). x.vars) c.self.view_is) in
-    answers_from c.run-found.result c.finish.new.assignment c.args.assumptions.now t c.args.book.now.entries c.run-found.new.book.entries c.run-found.new.budget c.trail_state-2.ensures.state
+    answers_from c.run-found.result c.finish.new.assignment c.args.assumptions.now t c.args.book.now.entries c.run-found.new.book.entries c.run-found.new.budget c.is_sound-2.ensures.state
     (subst (λ (n : ℕ). HasValues n c.args.assumptions.now) same c.requires.known) c.run-found.ensures.ended c.finish.ensures.values

@@ -1,7 +1,7 @@
 use Rattle.std.proofs.Common.{sym}
 use Rattle.sat_prop.proofs.Justifying.{justified_consistent}
 use Rattle.sat_solve.proofs.WaitingVariables.{value_is, value_not}
-use Rattle.sat_solve.proofs.ending.makes_true.Goals as goal
+use Rattle.sat_solve.proofs.assumptions.makes_true.Goals as goal
 
 pub returns-in-Some : goal.returns-in-Some
 returns-in-Some c = value_is c.args.trail.now.literals c.args.lit c.in-Some.value (justified_consistent _ _ _ _ _ c.is_sound.ensures.state.justified) (sym c.in-Some.ensures)

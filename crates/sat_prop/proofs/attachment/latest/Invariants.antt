@@ -1,7 +1,7 @@
 use Rattle.std.specs.Prelude.{◌≡◌, true, false, take, IfSome, IfNone}
 use Rattle.std.specs.List.{list_any, list_all}
 use Rattle.prop_core.specs.Clauses.{same_literal}
-use Rattle.sat_prop.proofs.watched.latest.Given as goal
+use Rattle.sat_prop.proofs.attachment.latest.Given as goal
 
 abbrev pub invariant-loop-lit : goal.invariant-loop-lit
 invariant-loop-lit l = record {

@@ -4,8 +4,8 @@ use Rattle.std.proofs.lemmas.Grind.{common_steps}
 use Rattle.prop_core.specs.Clauses.{is_true}
 use Rattle.sat_prop.specs.TrailState.{literal_at, reason_at}
 use Rattle.sat_solve.proofs.AssumedLevels.{assumed_next, forced_passes}
-use Rattle.sat_solve.proofs.ending.assumed_level.Goals as goal
-use Rattle.sat_solve.proofs.ending.assumed_level.Goals.{then-is_none+else-not-contains, else-is_none}
+use Rattle.sat_solve.proofs.assumptions.assumed_level.Goals as goal
+use Rattle.sat_solve.proofs.assumptions.assumed_level.Goals.{then-is_none+else-not-contains, else-is_none}
 
 pub loop-place-preserved : goal.loop-place-preserved
 loop-place-preserved c =

@@ -1,23 +1,13 @@
-// Assumptions, and the final clause of those that are refuted (Eén and Sörensson, "Temporal induction by incremental SAT solving", 2003).
-//
-// All assumptions are decided before any other literal. Where one of them is false, or a conflict depends on them alone, the decisions that
-// lead to it are assumptions, and the clause of their negations is derived.
-ghost use Rattle.std.specs.Prelude.{◌≡◌, ℕ, ◌<◌, ◌≤◌, ◌-◌, ◌^◌, length, take, true, IfOk, IfSome, IfNone, OnErr};
+// Assumptions. They are decided before any other literal, so the first levels of a trail are theirs.
+ghost use Rattle.std.specs.Prelude.{◌≡◌, ◌<◌, ◌-◌, length, take, true, IfSome, IfNone};
 ghost use Rattle.std.specs.List.{list_all};
-ghost use Rattle.prop_core.specs.Clauses.{is_true, is_false};
+ghost use Rattle.prop_core.specs.Clauses.{is_true};
 ghost use Rattle.sat_prop.specs.Levels.{IsGreatestLevel};
-ghost use Rattle.sat_prop.specs.Quiet.{IsConflict};
-ghost use Rattle.sat_prop.specs.Kept.{IsTrailState};
-ghost use Rattle.sat_solve.specs.Searching.{IsSearched};
-ghost use Rattle.sat_solve.specs.Solving.{IsAssumptionLeft, IsFurther, HasAssumedDecisions, AreTaken, IsOver, IsUnderWay, KeepsVariables, IsEnded, assumed_level_of};
+ghost use Rattle.sat_solve.specs.Solving.{IsAssumptionLeft, IsFurther, HasAssumedDecisions, AreTaken, assumed_level_of};
 
-use crate::answer::Answer;
 use crate::levels::greatest_level;
-use crate::search::Search;
-use des_base::Memory;
-use proof_ledger::Ledger;
-use prop_core::{ClauseId, Lit};
-use sat_prop::{Propagator, Trail};
+use prop_core::Lit;
+use sat_prop::Trail;
 
 // Whether the literal is one of these.
 pub fn contains(literals: &[Lit], lit: Lit) -> bool
@@ -123,63 +113,4 @@ pub fn lasting_level(trail: &Trail, assumptions: &[Lit]) -> u32
 {
     let others = assumptions.len().saturating_sub(1);
     greatest_level(trail, &assumptions[..others])
-}
-
-// What is true of each trail.
-pub fn trail_state(propagator: &Propagator)
-    ensures state { IsTrailState propagator.now }
-    ensures room { length propagator.now.literals ≤ propagator.now.vars }
-    ensures spare { propagator.now.spare < 2 ^ 63 }
-{
-    propagator.trail().is_sound();
-}
-
-impl<R: Fn(u32) -> u64> Search<R> {
-    // Puts the final clause of a conflict that depends on assumptions alone.
-    pub fn fail_by_conflict(
-        &mut self,
-        book: &mut Ledger,
-        conflict: ClauseId,
-        assumptions: &[Lit],
-    ) -> Result<ClauseId, Memory>
-        requires over { IsOver self.old book.old.entries }
-        requires conflict { IsConflict self.old.propagator conflict }
-        requires assumed { HasAssumedDecisions self.old.propagator assumptions.now (length self.old.propagator.literals) }
-        ensures kept { KeepsVariables self.old self.new }
-        ensures searched { (budget : ℕ) → IsSearched book.old.entries book.new.entries budget budget }
-        ensures ended { (budget : ℕ) → IfOk result (λ id. IsEnded assumptions.now self.new book.old.entries book.new.entries budget (Answer.Unsat id)) }
-        ensures err { OnErr result (IsOver self.new book.new.entries) }
-        ensures unput { OnErr result (book.new.entries ≡ book.old.entries) }
-    {
-        trail_state(&self.propagator);
-        self.propagator.reserve_clauses(self.spare + 1)?;
-        let learnt = self
-            .learner
-            .analyse_final(self.propagator.trail(), book.clauses(), conflict)?;
-        book.put_final(learnt.clause.as_slice(), learnt.hints.as_slice())
-    }
-
-    // Puts the final clause of an assumption that is false.
-    pub fn fail_assumption(
-        &mut self,
-        book: &mut Ledger,
-        lit: Lit,
-        assumptions: &[Lit],
-    ) -> Result<ClauseId, Memory>
-        requires under_way { IsUnderWay assumptions.now self.old book.old.entries }
-        requires next { IsAssumptionLeft self.old.propagator.literals assumptions.now lit }
-        requires false_now { is_false self.old.propagator.literals lit ≡ true }
-        ensures kept { KeepsVariables self.old self.new }
-        ensures searched { (budget : ℕ) → IsSearched book.old.entries book.new.entries budget budget }
-        ensures ended { (budget : ℕ) → IfOk result (λ id. IsEnded assumptions.now self.new book.old.entries book.new.entries budget (Answer.Unsat id)) }
-        ensures err { OnErr result (IsOver self.new book.new.entries) }
-        ensures unput { OnErr result (book.new.entries ≡ book.old.entries) }
-    {
-        trail_state(&self.propagator);
-        self.propagator.reserve_clauses(self.spare + 1)?;
-        let learnt = self
-            .learner
-            .analyse_failed(self.propagator.trail(), book.clauses(), lit)?;
-        book.put_final(learnt.clause.as_slice(), learnt.hints.as_slice())
-    }
 }

@@ -1,6 +1,6 @@
 use Rattle.std.specs.Prelude.{◌≡◌, ◌+◌, ◌≤◌, drop}
 use Rattle.sat_solve.proofs.AssumedLevels.{assumed_of}
-use Rattle.sat_solve.proofs.ending.assumed_level.Given as goal
+use Rattle.sat_solve.proofs.assumptions.assumed_level.Given as goal
 
 abbrev pub invariant-loop-place : goal.invariant-loop-place
 invariant-loop-place l = record {

@@ -1,5 +1,5 @@
 use Rattle.sat_solve.specs.Solving.{HasAssumedDecisions}
-use Rattle.sat_solve.proofs.ending.first_further.Given as goal
+use Rattle.sat_solve.proofs.assumptions.first_further.Given as goal
 
 abbrev pub invariant-loop-place : goal.invariant-loop-place
 invariant-loop-place l = HasAssumedDecisions l.trail l.assumptions l.place
