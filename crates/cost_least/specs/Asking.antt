@@ -1,5 +1,5 @@
 -- One question of costs: what it leaves in the book, and what its answer means.
-use Rattle.std.specs.Prelude.{◌≡◌, ℕ, suc, ◌+◌, ◌<◌, List, [], ◌∷◌, ◌++◌, Option, Some, None, ⊤}
+use Rattle.std.specs.Prelude.{◌≡◌, ℕ, suc, ◌<◌, List, Option, Some, None, ⊤}
 use Rattle.sat_solve.specs.Leaving.{IsSearching}
 use Rattle.log_encode.specs.CodedLog.{CodedLog}
 use Rattle.proof_ledger.specs.Book.{BookEntry, clauses_of}

@@ -1,5 +1,5 @@
 -- A verdict, and what the entries since its question was opened show.
-use Rattle.std.specs.Prelude.{◌≡◌, ◌⊎◌, ◌↔◌, ℕ, ◌≤◌, List, [], ◌∷◌, ◌++◌, Contains}
+use Rattle.std.specs.Prelude.{◌≡◌, ◌⊎◌, ◌↔◌, ℕ, List, [], ◌∷◌, ◌++◌, Contains}
 use Rattle.des_net.specs.Network.{Net}
 use Rattle.fault_verdicts.specs.Asked.{Question, without, with_event, IsPosedOf}
 use Rattle.fault_verdicts.specs.Verdicts.{IsBest, IsCertain, IsExcluded, IsPossible}

@@ -1,5 +1,5 @@
 -- From the entries of a search to those of a whole answer: what came before, and the marks.
-use Rattle.std.proofs.Common.{◌≡◌, ◌∙◌, ℕ, ◌+◌, ◌-◌, true, ◌&&◌, ◌⊎◌, inr, List, [], ◌∷◌, ◌++◌, length, Option, None, Some, IfNone, sym, ap, subst, arith, count_by, append-nil, append_assoc, ◌≤◌, refl}
+use Rattle.std.proofs.Common.{◌≡◌, ◌∙◌, ℕ, ◌+◌, ◌-◌, true, ◌&&◌, inr, List, [], ◌∷◌, ◌++◌, length, Option, None, Some, IfNone, sym, ap, subst, arith, count_by, append-nil, append_assoc, ◌≤◌, refl}
 use Rattle.std.proofs.lemmas.List.Elements.{filter_map-append}
 use Rattle.std.proofs.lemmas.List.Folds.{list_all-append}
 use Rattle.std.specs.List.{AllByRecursion, list_all}

@@ -1,5 +1,5 @@
 -- What is found of the least number of faults that explains a log, and what each answer means.
-use Rattle.std.specs.Prelude.{◌≡◌, ◌⊎◌, ℕ, suc, ◌<◌, ◌≤◌, Bool, true, not, ◌||◌, List, [], ◌∷◌, ◌++◌, length, Option, Some, None, IfSome, IfNone, count_by, ⊤}
+use Rattle.std.specs.Prelude.{◌≡◌, ◌⊎◌, ℕ, suc, ◌<◌, ◌≤◌, Bool, true, not, ◌||◌, List, length, Option, Some, None, IfSome, IfNone, count_by, ⊤}
 use Rattle.std.specs.List.{list_all}
 use Rattle.des_net.specs.Network.{Net}
 use Rattle.answers.specs.Explanations.{IsExplanation}

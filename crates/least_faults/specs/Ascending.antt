@@ -1,5 +1,5 @@
 -- A search upwards from 0: what it has found of a log when it comes to a bound, and what it finds.
-use Rattle.std.specs.Prelude.{◌≡◌, ℕ, suc, ◌+◌, ◌<◌, ◌≤◌, List, ◌++◌, Some, count_by}
+use Rattle.std.specs.Prelude.{◌≡◌, ℕ, suc, ◌<◌, ◌≤◌, List, Some, count_by}
 use Rattle.card_counter.specs.CounterState.{CounterState}
 use Rattle.des_net.specs.Network.{Net}
 use Rattle.answers.specs.declared.found.Found.{Found}

@@ -41,10 +41,6 @@ fresh_mark earlier number = record { number = refl; each = (tt, tt) }
 pub fresh_searched : (mid new : List BookEntry) (before after : ℕ) → (searched : IsSearched mid new before after) → HasAxiomVars mid → HaveLearntFresh mid searched.since
 fresh_searched mid new before after searched known = record { number = refl; each = (searched.learnt_entries known).each }
 
--- a search after axioms
-pub fresh_after : (old mid new : List BookEntry) (before after : ℕ) → (adds : AddsAxioms old mid) → (searched : IsSearched mid new before after) → HasAxiomVars mid → HaveLearntFresh old (map axiomatic adds.axioms ++ searched.since)
-fresh_after old mid new before after adds searched known = fresh_both old mid (map axiomatic adds.axioms) searched.since adds.more (fresh_axioms old adds.axioms) (fresh_searched mid new before after searched known)
-
 -- what was learnt between the marks, after the axioms, is all that was learnt
 pub fresh_closed : (axioms : List Clause) (since book : List BookEntry) (count : ℕ) → book ≡ map axiomatic axioms ++ mark 0 ∷ since ++ mark 1 ∷ [] → HaveLearntFresh (map axiomatic axioms ++ mark 0 ∷ []) since → count_by is_learnt since ≡ count → AreFresh [] book count
 fresh_closed axioms since book count whole fresh counted = subst (λ (b : List BookEntry). AreFresh [] b count) (sym whole) (record {
