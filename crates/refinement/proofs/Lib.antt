@@ -1,0 +1,5 @@
+pub mod Lists
+pub mod Effects
+pub mod Changes
+pub mod Alike
+pub mod RefinementLemmas

@@ -1,1 +1,4 @@
 pub mod Refinement
+pub mod Seen
+pub mod Marking
+pub mod Comparing

@@ -1,5 +1,5 @@
 -- A network that has more components, each of which follows one of the old ones: it is in "yes" while that one may be in some set of its states, and else in "no". (An abstraction of a component by a partition of its states in two: Clarke, Grumberg and Long, "Model checking and abstraction", 1994.)
-use Rattle.std.specs.Prelude.{◌≡◌, ◌≤◌, ◌<◌, ◌++◌, ℕ, Bool, true, List, length, drop, Some, slice_get, Contains, if◌then◌else◌}
+use Rattle.std.specs.Prelude.{◌≡◌, ◌≤◌, ◌<◌, ◌++◌, ℕ, Bool, true, List, length, Some, slice_get, Contains, if◌then◌else◌}
 use Rattle.std.specs.List.{AllByRecursion, AllZip}
 use Rattle.des_net.specs.declared.parts.Part.{Part}
 use Rattle.des_net.specs.Network.{Component, Event, Net, component_at, parts_of, action_at, touches}
