@@ -17,10 +17,13 @@ TOP = os.path.dirname(os.path.dirname(os.path.abspath(__file__)))
 # Calls that only advise, by crate, file and name, and why their callers take any answer.
 TRIED = "it chooses what a search tries first, and a search is right whatever it tries"
 DROPPED = "it marks literals of a clause that is being learnt, and whoever drops one resolves with its reason, or doesn't drop it"
+CHOSEN = "it chooses which components a finer network has besides, and what is given is a refinement whatever was chosen"
 ADVICE = {
     ("least_faults", "deadlines.rt", "missed_deadlines"): TRIED,
     ("least_faults", "loose.rt", "are_loose"): TRIED,
     ("least_faults", "loose.rt", "push_unpassed"): TRIED,
+    ("refinement", "room.rt", "take"): CHOSEN,
+    ("refinement", "rule.rt", "wants"): CHOSEN,
     ("sat_learn", "removable.rt", "new"): DROPPED,
     ("sat_learn", "removable.rt", "widen"): DROPPED,
     ("sat_learn", "removable.rt", "resolves"): DROPPED,

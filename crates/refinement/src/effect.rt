@@ -1,6 +1,5 @@
 // How an action changes whether a component is in a state.
 ghost use Rattle.std.specs.Prelude.{◌≡◌, ◌<◌, length, IfOk};
-ghost use Rattle.des_net.specs.Network.{component_at};
 ghost use Rattle.refinement.specs.Seen.{AreEffects};
 ghost use Rattle.refinement.specs.Marking.{with_change, marked};
 
