@@ -22,6 +22,7 @@ ADVICE = {
     ("least_faults", "deadlines.rt", "missed_deadlines"): TRIED,
     ("least_faults", "loose.rt", "are_loose"): TRIED,
     ("least_faults", "loose.rt", "push_unpassed"): TRIED,
+    ("refinement", "room.rt", "new"): CHOSEN,
     ("refinement", "room.rt", "take"): CHOSEN,
     ("refinement", "rule.rt", "wants"): CHOSEN,
     ("sat_learn", "removable.rt", "new"): DROPPED,
