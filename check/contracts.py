@@ -17,11 +17,18 @@ TOP = os.path.dirname(os.path.dirname(os.path.abspath(__file__)))
 # Calls that only advise, by crate, file and name, and why their callers take any answer.
 TRIED = "it chooses what a search tries first, and a search is right whatever it tries"
 DROPPED = "it marks literals of a clause that is being learnt, and whoever drops one resolves with its reason, or doesn't drop it"
-CHOSEN = "it chooses which components a finer network has besides, and what is given is a refinement whatever was chosen"
+CHOSEN = "it chooses which components a finer network has besides, or writes its text; that is read, and given only if it is a refinement"
 ADVICE = {
     ("least_faults", "deadlines.rt", "missed_deadlines"): TRIED,
     ("least_faults", "loose.rt", "are_loose"): TRIED,
     ("least_faults", "loose.rt", "push_unpassed"): TRIED,
+    ("refinement", "additions.rt", "plan"): CHOSEN,
+    ("refinement", "additions.rt", "transitions"): CHOSEN,
+    ("refinement", "change.rt", "lines"): CHOSEN,
+    ("refinement", "change.rt", "name"): CHOSEN,
+    ("refinement", "change.rt", "of"): CHOSEN,
+    ("refinement", "change.rt", "transitions"): CHOSEN,
+    ("refinement", "drafting.rt", "draft"): CHOSEN,
     ("refinement", "room.rt", "new"): CHOSEN,
     ("refinement", "room.rt", "take"): CHOSEN,
     ("refinement", "rule.rt", "wants"): CHOSEN,
