@@ -1,5 +1,5 @@
 // Unit propagation by watched literals, with the trail that it extends.
-ghost use Rattle.std.specs.Prelude.{◌≡◌, ◌<◌, ◌≤◌, [], length, max, true, None, OnOk, OnErr, IfSome};
+ghost use Rattle.std.specs.Prelude.{◌≡◌, ◌<◌, ◌≤◌, [], length, max, true, None, OnOk, OnErr, IfSome, ◌^◌};
 ghost use Rattle.prop_core.specs.Derivation.{clause_numbered};
 ghost use Rattle.prop_core.specs.Clauses.{is_open, HasValues};
 ghost use Rattle.sat_prop.specs.Levels.{level_of};
