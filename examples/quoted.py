@@ -33,7 +33,7 @@ BOXES = rf"{BOX}(?: & {BOX})*"
 FIGURE = {
     "flowchart LR": re.compile(rf"classDef fault stroke-dasharray: 4 3|{BOXES}(?: {LINK} {BOXES})*"),
     "stateDiagram-v2": re.compile(r"(?:\[\*\]|\w+) --> \w+(?: : [\w-]+)?"),
-    "timeline": re.compile(r"step \d+(?: : (?:! )?[\w-]+(?: [\w-]+)?(?: \(fault\))?)+"),
+    "timeline": re.compile(r"step \d+(?: : (?:! )?[\w-]+(?: [\w-]+)?(?: \((?:fault|false alarm)\))?)+"),
 }
 FIGURE["flowchart TD"] = FIGURE["flowchart LR"]
 TAKEN = {"end", "class", "style", "click", "graph", "subgraph", "default", "direction"}
