@@ -2,7 +2,7 @@
 
     python3 tools/causes.py PROGRAM MODEL N AFTER BUDGET
 
-PROGRAM is the compiled program, crates/diagnose_cli/out/diagnose_cli. All that is said is about runs within N parallel steps, from the initial states of the model.
+PROGRAM is the compiled program, crates/diagnose_cli/out/diagnose_cli, N at most 1,000 and AFTER 1 to 250. All that is said is about runs within N parallel steps, from the initial states of the model.
 
 Of each alarm: the least number of faults before it or with it, and all sets of so many, as tools/sets.py lists them. `diagnose` is asked about a log with this alarm alone, of the model in which no other label is seen.
 Of each event: whether it can happen at all, asked in the same way. Of each fault: the alarms that point to it, which are those with a set that has it; by which alarm after it, up to AFTER, it is known that a fault happened (no run without a fault looks alike), and
@@ -18,10 +18,10 @@ sys.path.insert(0, os.path.dirname(os.path.abspath(__file__)))
 from program import Program, Refused, Text  # noqa: E402
 from progress import Progress  # noqa: E402
 from sets import Ended, Question, sets  # noqa: E402
-from texts import Wrong, called  # noqa: E402
+from texts import Event, Wrong, called, plural  # noqa: E402
 
 LABEL, LOG = "seen", Text("alarm,a1,seen\n")
-STEPS, PARTS, SHOWN = 1000, 16, 12
+STEPS, PARTS, COUNTED, SHOWN = 1000, 16, 250, 12
 UNKNOWN = "UNDECIDED"
 
 
@@ -30,41 +30,41 @@ class Plant:
 
     def __init__(self, text):
         self.lines = [line.split() for line in text.split("\n") if line]
-        self.events = {words[1]: words for words in self.lines if words[0] == "event"}
+        self.events = {words[1]: Event(words) for words in self.lines if words[0] == "event"}
         self.taken = {words[1] for words in self.lines if words[0] in ("component", "event")}
 
-    def label(self, event):
-        words = self.events[event]
-        return words[3] if words[2] == "alarm" else None
-
-    def is_fault(self, event):
-        words = self.events[event]
-        return words[words.index(":") - 1] == "fault" and words.index(":") > 2
-
     def labels(self):
-        return list(dict.fromkeys(label for label in map(self.label, self.events) if label))
+        return list(dict.fromkeys(event.label for event in self.events.values() if event.label))
 
     def faults(self):
-        return [event for event in self.events if self.is_fault(event)]
+        return [name for name, event in self.events.items() if event.is_fault]
 
     def free(self, name):
         """A name that no component and no event has."""
         return next(it for it in [name] + [f"{name}-{number}" for number in range(len(self.taken))] if it not in self.taken)
 
-    def changed(self, seen=None, without=(), added=(), parts=lambda event: []):
-        """The model in which the events of `seen` alone raise an alarm, if it is given, without some events, and with further components and parts."""
+    def changed(self, seen=None, without=(), added=(), copies=lambda event: [[]]):
+        """The model in which the events of `seen` alone raise an alarm, if it is given, without some events, and with further components. Of each event there are as many copies as lists of further parts."""
         lines = [self.lines[0], *map(str.split, added)]
         for words in self.lines[1:]:
-            if words[0] == "event":
-                name, at = words[1], words.index(":")
-                if name in without:
-                    continue
-                label = self.label(name) if seen is None else LABEL if name in seen else None
-                if parts(name) and len(words[at + 1:]) == PARTS:
-                    raise Wrong(f"{name} has {PARTS} parts, so that none can be added to tell when it happens")
-                words = ["event", name] + (["alarm", label] if label else []) + ["fault"] * self.is_fault(name) + words[at:] + parts(name)
-            lines.append(words)
+            if words[0] != "event":
+                lines.append(words)
+            elif words[1] not in without:
+                lines += self.copied(words, seen, copies(self.events[words[1]]))
         return Text("\n".join(map(" ".join, lines)) + "\n")
+
+    def copied(self, words, seen, copies):
+        """The lines of an event with further parts. All copies but the first have names of their own."""
+        name, parts = words[1], words[words.index(":"):]
+        label = self.events[name].label if seen is None else LABEL if name in seen else None
+        marks = (["alarm", label] if label else []) + ["fault"] * self.events[name].is_fault
+        for place, further in enumerate(copies):
+            if len(parts[1:] + further) > PARTS:
+                raise Wrong(f"{name} has {plural(len(parts) - 1, 'part')}, so that none can be added to tell when it happens")
+            yield ["event", self.free(f"copy-{self.place(name)}") if place else name] + marks + parts + further
+
+    def place(self, event):
+        return list(self.events).index(event)
 
     def seeing(self, events):
         return self.changed(seen=events)
@@ -77,18 +77,18 @@ class Plant:
         """The model in which one fault may happen, once."""
         once = self.free("once")
         added = [f"component {once}", "state fresh init", "state struck", "trans fresh strike struck"]
-        return self.changed(added=added, parts=lambda event: [f"{once}.strike"] * self.is_fault(event))
+        return self.changed(added=added, copies=lambda event: [[f"{once}.strike"] * event.is_fault])
 
     def followed(self, fault, count):
-        """The model with no other fault, in which an alarm is raised when so many alarms came after the fault, each in a step of its own."""
-        after = self.free("after")
-        added = [f"component {after}", "state before init", *(f"state n{number}" for number in range(count + 1)), "trans before see before", "trans before strike n0"]
+        """The model in which an alarm is raised when so many alarms came after the fault. They are counted as by `twin`: a step has one alarm at most, and that of the fault's own step came with it."""
+        after, turn = self.free("after"), self.free("turn")
+        added = [f"component {turn}", "state open init", "trans open take open", f"component {after}", "state before init", *(f"state n{number}" for number in range(count + 1)), "trans before strike n0"]
         added += [f"trans n{number} see n{min(count, number + 1)}" for number in range(count + 1)] + [f"trans n{number} strike n{number}" for number in range(count + 1)] + [f"trans n{count} tell n{count}"]
-        without = {it for it in self.faults() if it != fault}
 
-        def parts(event):
-            return [f"{after}.strike"] if event == fault else [f"{after}.see"] * (self.label(event) is not None)
-        return Text(self.changed(seen=(), without=without, added=added, parts=parts) + f"event {self.free('tell')} alarm {LABEL} : {after}.tell\n")
+        def copies(event):
+            takes = [f"{turn}.take"] * (event.label is not None)
+            return [takes + [f"{after}.strike"] * (event.name == fault)] + [takes + [f"{after}.see"]] * bool(takes)
+        return Text(self.changed(seen=(), added=added, copies=copies) + f"event {self.free('tell')} alarm {LABEL} : {after}.tell\n")
 
 
 class Asked:
@@ -115,7 +115,7 @@ class Asked:
 
     def behind(self, label):
         """The least number of faults that an alarm takes, and all sets of so many."""
-        model = self.plant.seeing({it for it in self.plant.events if self.plant.label(it) == label})
+        model = self.plant.seeing({name for name, event in self.plant.events.items() if event.label == label})
         found = set()
         try:
             if not sets(Question(self.program.path, model, LOG, self.n, self.budget), found):
@@ -146,7 +146,7 @@ class Asked:
                 high = middle
             else:
                 low = middle + 1
-        follow = self.least(self.plant.followed(fault, high), min(STEPS, self.n + 1))
+        follow = self.least(Plant(model).followed(fault, high), min(STEPS, self.n + 1))
         return str(high) if isinstance(follow, int) else "?" if follow is None else UNKNOWN
 
 
@@ -188,7 +188,7 @@ def listed(asked):
 
 
 def main(words):
-    if len(words) != 5 or not all(it.isdecimal() for it in words[2:]) or int(words[2]) > STEPS or not 1 <= int(words[3]) <= STEPS:
+    if len(words) != 5 or not all(it.isdecimal() for it in words[2:]) or int(words[2]) > STEPS or not 1 <= int(words[3]) <= COUNTED:
         sys.stderr.write(__doc__)
         return 2
     n, after, budget = map(int, words[2:])

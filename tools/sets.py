@@ -24,7 +24,7 @@ from collections import Counter, deque
 sys.path.insert(0, os.path.dirname(os.path.abspath(__file__)))
 from program import Program, Refused, Text  # noqa: E402
 from progress import Progress  # noqa: E402
-from texts import plural  # noqa: E402
+from texts import Event, plural  # noqa: E402
 
 FALSE = "!"
 PARTS = 16
@@ -56,7 +56,7 @@ class Question:
         except Refused as fault:
             raise Ended(fault.ending, str(fault)) from fault
         self.log = rows_of(log)
-        self.faults = {words[1] for words in self.model if words[0] == "event" and "fault" in words[2:words.index(":")][-1:]}
+        self.faults = {words[1] for words in self.model if words[0] == "event" and Event(words).is_fault}
         self.counters = self.counter_names()
 
     def counter_names(self):

@@ -65,6 +65,7 @@ def main(words):
         (TANK, ONE, ("2", "1000", "1"), ("1 burst\n", 0)),
         (TANK, DOUBTFUL, ("4", "1000", "3"), ("1 ! a1\n1 burst\n2 leak leak\n", 0)),
         (TANK, "", ("4", "1000", "1"), ("0\n", 0)),
+        (TANK.replace("alarm A", "alarm fault"), "alarm,a1,fault\n", ("4", "1000"), ("1 burst\n", 0)),
         (TANK, "alarm,a1,C\n", ("4", "1000"), ("", 10)),
         (TANK, "alarm;a1\n", ("4", "0"), ("", 6)),
         ("des 2\n", ONE, ("4", "0"), ("", 5)),
