@@ -12,6 +12,7 @@ Status 0: every answer is the one that is quoted, 1: some isn't, 2: it could not
 import glob
 import os
 import pty
+import re
 import select
 import shutil
 import subprocess
@@ -54,7 +55,8 @@ class Terminal:
             if not select.select([self.master], [], [], max(0, end - time.monotonic()))[0]:
                 return said.decode(errors="replace") + "(and no end of it came in time)\n"
             said += os.read(self.master, 65536)
-        return said.decode(errors="replace")[:-len(f"\n{MARK}\n")]
+        # What a tool says while it works is written over, so that a screen doesn't keep it.
+        return re.sub(r"(?m)^.*\r\x1b\[K", "", said.decode(errors="replace")[:-len(f"\n{MARK}\n")])
 
     def close(self):
         self.shell.kill()

@@ -27,6 +27,7 @@ PAGES = ["README.md", "CONTRIBUTING.md", *(f"docs/{it}.md" for it in ["tutorial"
 FILES = ["examples/*/*.des", "examples/*/*.blocks", "examples/*/*.csv", "examples/*/*.costs", "examples/*/*.run", "crates/*/must-fail/*.edit", "crates/*/more-edits/*.edit", "crates/*/more-edits.txt"]
 KIT = re.compile(r"(?:rt|\(?cd crates|git|\.ci/run|python3 examples/quoted\.py)\b")
 OTHERS = {"cadical": "--lrat", "clasp": "", "minisat": "", "parallel": ""}
+HERE = re.compile(r"<<'([A-Z]+)'")
 BOX = r'(\w+)(\["[^"]+"\]|\(\["[^"]+"\]\))?(?::::fault)?'
 LINK = r'(?:---|-->|-\.->|-- "[^"]+" -->|-\. "[^"]+" \.->)'
 BOXES = rf"{BOX}(?: & {BOX})*"
@@ -108,7 +109,9 @@ def commands(block):
     whole, part = [], ""
     for line in block.splitlines(True):
         part += line
-        if not part.rstrip("\n").endswith("\\") and not subprocess.run(["sh", "-n", "-c", part], stderr=subprocess.DEVNULL).returncode:
+        # (to `sh -n` a here-document may end anywhere)
+        is_open = any(end not in part.split("\n")[1:] for end in HERE.findall(part))
+        if not is_open and not part.rstrip("\n").endswith("\\") and not subprocess.run(["sh", "-n", "-c", part], stderr=subprocess.DEVNULL).returncode:
             whole.append(part)
             part = ""
     return whole + [part] if part else whole

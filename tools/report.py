@@ -21,6 +21,7 @@ import plant  # noqa: E402
 import timeline  # noqa: E402
 from diagnosis import Diagnosis  # noqa: E402
 from report_words import Words, listing, sentence, word  # noqa: E402
+from svg import DARK  # noqa: E402
 from texts import called, plural, read, rows_of, shown  # noqa: E402
 
 CSS = os.path.join(os.path.dirname(os.path.abspath(__file__)), "report.css")
@@ -29,9 +30,6 @@ WIDE, NARROW, TALL, DRAWN, LONG, PRINTED, SHOWN, FOLDED = 760, 350, 520, 12, 600
 MARKS = {"certain": "\u25cf", "possible": "\u25d0", "open": "?", "excluded": "\u25cb"}
 MEANS = {"certain": "every explanation with the fewest faults has it", "possible": "some explanations with the fewest faults have it and some don't", "open": "the budget or the time was spent before it was known",
          "excluded": "no explanation with the fewest faults has it"}
-# Each colour of the light scheme with that of the dark one.
-DARK = {"fff": "16181c", "222": "e8e9eb", "f4f5f7": "1f2329", "555": "b4b9c0", "e6eef6": "263850", "f5d590": "5a4712", "333": "d5d7da", "b3261e": "ff8f85", "1f5fa8": "8fbcf2", "777": "a9adb3",
-        "fafbfc": "1b1e23", "d5d9de": "3d434b", "dfe9f3": "26384e", "6b7f94": "8da2b8", "999": "8b8f95", "666": "a2a6ac", "aaa": "7b8087", "444": "c6c9cd", "888": "9a9ea4"}
 TOP = """<!doctype html>
 <html lang="en">
 <head>
@@ -63,7 +61,6 @@ def embedded(svg, kind, name, title, says):
     """A picture as a part of the page: without rules of its own, in its colours, and with words for those who can't see it."""
     head, rest = re.sub(r"(?s)<style>.*?</style>", "", svg, count=1).split(">", 1)
     rest = re.sub(r"^\s*<title>.*?</title>", "", rest)
-    rest = re.sub(r'fill="(#[0-9a-f]+)"', lambda it: f'style="fill: {coloured(it[1])}"', rest)
     return f'{head} class="{kind}" aria-labelledby="{name}-title {name}-says"><title id="{name}-title">{escape(title)}</title><desc id="{name}-says">{escape(says)}</desc>{rest}'
 
 
@@ -227,6 +224,8 @@ class Page:
         if self.is_least:
             heads[0], heads[3] = "By number", "In the run of least cost"
         caption = "Fault events and what is known of them. " + " ".join(f"{kind.capitalize()}: {MEANS[kind]}." for kind in MARKS if kind in known.values())
+        if any("<a " in cells[0] for _, cells in rows):
+            caption += " A verdict that is a link leads to a run that has what the run above lacks, or lacks what it has."
         if self.is_least:
             caption += " This is about the runs with the fewest faults; the run above, which has the least cost, need not be one of these."
         kept, out = [it for it in rows if it[0] != "excluded"], [it for it in rows if it[0] == "excluded"]
@@ -246,10 +245,9 @@ class Page:
         has = self.found.faults_in(self.found.drawn.run)
         run = "no" if name not in has else "yes" if has[name] == 1 else f"{word(has[name])} times"
         other = next((place for place, (steps, _) in enumerate(self.found.others, 1) if (name in self.found.faults_in(steps)) != (name in has)), 0) if kind == "possible" else 0
-        if other:
-            run += f' (<a href="#other-{other}">a run with{"out" * (name in has)} it</a>)'
+        said = f'<a href="#other-{other}" title="a run with{"out" * (name in has)} it">{kind}</a>' if other else kind
         moves = ", ".join(f"{one}.{action}" for one, action in self.model.events[name].parts.items())
-        verdict = f'<span class="verdict"><span class="mark" aria-hidden="true">{MARKS[kind]}</span>{kind}</span>'
+        verdict = f'<span class="verdict"><span class="mark" aria-hidden="true">{MARKS[kind]}</span>{said}</span>'
         return [verdict, escape(name), escape(moves), run] + [str(self.found.costs().get(name, 1))] * bool(self.found.cheapest)
 
     # The log.
