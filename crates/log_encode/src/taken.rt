@@ -6,8 +6,8 @@ ghost use Rattle.log_encode.specs.Written.{rest_variable, taken_from, end_after,
 use crate::alarm_vars::AlarmVars;
 use des_base::{EventId, Memory, Name, VAR_LIMIT};
 use des_net::Network;
-use replay::LabelSet;
 use prop_core::Grid;
+use replay::LabelSet;
 use std::alloc::Global;
 
 // The end of the chain of an event that can be seen: the variable that says that it ends there, and the first of those by
