@@ -14,7 +14,7 @@ import re
 import sys
 
 TOP = os.path.dirname(os.path.dirname(os.path.abspath(__file__)))
-# Calls that only advise, by crate, file and name, and why their callers take any answer.
+# Public functions that only advise, by crate, file and name, and why their callers take any answer. (Private ones say it above them, or at the head of their file.)
 TRIED = "it chooses what a search tries first, and a search is right whatever it tries"
 DROPPED = "it marks literals of a clause that is being learnt, and whoever drops one resolves with its reason, or doesn't drop it"
 CHOSEN = "it chooses which components a finer network has besides, or writes its text; that is read, and given only if it is a refinement"

@@ -3,7 +3,7 @@
 // The run that is asked for has as many faults as the known one, and the counter goes through the fault events in order. A search that first settles how many
 // faults are counted up to each event splits the others into those before the event in question and those behind it. What it learns speaks of counts and
 // not of that event, so it serves the questions about later events too; a search by activity refutes each event anew. No contract says that it is good to
-// try this.
+// try this, and the functions that choose it have no `ensures`: the solver takes any advice.
 ghost use Rattle.std.specs.Prelude.{◌≡◌};
 
 use crate::listing::fault_list;

@@ -8,6 +8,7 @@ use des_base::{CompId, Memory, Name, StateId};
 use des_net::{BuildRefusal, Builder, Part};
 use std::alloc::Global;
 
+// The one refusal that is left. It has no `ensures`: a `Memory` has one value.
 fn only_memory(refusal: BuildRefusal) -> Memory
     requires { refusal ≡ BuildRefusal.Memory }
 {

@@ -5,6 +5,7 @@ ghost use Rattle.log_order.specs.Adding.{alarm_refusal, with_alarm, before_refus
 use des_base::{Memory, Name};
 use log_order::{AlarmLog, LogRefusal};
 
+// The one refusal that is left. It has no `ensures`: a `Memory` has one value.
 fn only_memory(refusal: LogRefusal) -> Memory
     requires { refusal ≡ LogRefusal.Memory }
 {

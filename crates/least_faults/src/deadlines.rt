@@ -4,7 +4,8 @@
 // either may stand for touches one component: then the first is done at least a step before the second. In a long chain of such pairs few steps
 // are left to each alarm. A search finds that out slowly: it matches alarms here and there, and learns little from each conflict. But try that an
 // alarm misses its deadline, while those behind it keep theirs: propagation (almost) alone refutes it, and the clause that is learnt is short. So
-// the solver is advised to try that first. No contract says that the advice is good.
+// the solver is advised to try that first. No contract says that the advice is good, and the functions that only choose what is tried have no
+// `ensures`: the solver takes any advice.
 ghost use Rattle.std.specs.Prelude.{◌≡◌, ◌<◌, length, IfOk, OnOk};
 ghost use Rattle.std.specs.List.{AllByRecursion};
 ghost use Rattle.least_faults.specs.Parts.{BelongTo};

@@ -3,7 +3,7 @@
 //
 // Loose alarms can be matched in many orders, all equally good, and a search by activity goes through them one by one. If the last steps are settled
 // first, what is learnt says which alarms are left to the earlier steps, whatever the order of the later ones. No contract says that it is good to
-// try this.
+// try this, and these functions have no `ensures`: the solver takes any advice.
 ghost use Rattle.std.specs.Prelude.{◌<◌, ◌≤◌, length};
 
 use crate::MOST_TRIES;

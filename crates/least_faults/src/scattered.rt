@@ -3,7 +3,8 @@
 //
 // The counter goes through the fault events in order. So a search that settles the last devices first soon knows how many faults are left to the others,
 // and what it learns says which alarms are left to them. A search by activity goes through all ways to share the alarms out among the devices. Without a
-// bound nothing is counted, and this order would only be in the way. No contract says that it is good to try this.
+// bound nothing is counted, and this order would only be in the way. No contract says that it is good to try this, and the functions that choose it have
+// no `ensures`: the solver takes any advice.
 ghost use Rattle.std.specs.Prelude.{◌≡◌, ◌<◌, ◌≤◌, length};
 ghost use Rattle.least_faults.specs.Parts.{BelongTo};
 ghost use Rattle.least_faults.specs.Trying.{IsCodeFor};
