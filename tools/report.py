@@ -225,7 +225,7 @@ class Page:
             heads[0], heads[3] = "By number", "In the run of least cost"
         caption = "Fault events and what is known of them. " + " ".join(f"{kind.capitalize()}: {MEANS[kind]}." for kind in MARKS if kind in known.values())
         if any("<a " in cells[0] for _, cells in rows):
-            caption += " A verdict that is a link leads to a run that has what the run above lacks, or lacks what it has."
+            caption += " A verdict that is a link leads to a run where it is the other way round."
         if self.is_least:
             caption += " This is about the runs with the fewest faults; the run above, which has the least cost, need not be one of these."
         kept, out = [it for it in rows if it[0] != "excluded"], [it for it in rows if it[0] == "excluded"]
