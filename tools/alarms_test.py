@@ -40,6 +40,7 @@ TRIED = [
     ("label,Text\nHIGH,\n", "Time,At,Text\n1762135200.5,a,x\n1762135200.2,b,x\n", ("Time", "unix", "At", "0.3"), "alarm,a3,HIGH\nalarm,a2,HIGH\nbefore,a3,a2\n", "", 0),
     ("label,Text\nHIGH,\n", "Time,Text\n2026-10-25T02:30:00+02:00,x\n2026-10-25T02:10:00+01:00,x\n", ("Time", "iso"), "alarm,a2,HIGH\nalarm,a3,HIGH\nbefore,a2,a3\n", "", 0),
     ("label,Text\nHIGH,\n", "Time,Text\n2026-10-25T02:30:00+02:00,x\n2026-10-25T02:10:00,x\n", ("Time", "iso"), "", "export, line 3: '2026-10-25T02:10:00' has no zone, and the first alarm has one\n", 1),
+    ("label,Text\nHIGH,\n", "Time,Text\n03/11/26 02:30:00 +0200,x\n03/11/26 02:10:00 +0100,x\n", ("Time", "%d/%m/%y %H:%M:%S %z"), "alarm,a2,HIGH\nalarm,a3,HIGH\nbefore,a2,a3\n", "", 0),
     ("label,Text\nHIGH,\n", "Time,Text\n1e400,x\nnan,x\n", ("Time", "unix"), "", "export, line 2: '1e400' isn't a time of the form unix\nexport, line 3: 'nan' isn't a time of the form unix\n", 1),
     (RULES, LIST[:-1], CLOCK, "", "export, line 6: the line has no end, so it may be half-written\n", 1),
     (RULES, LIST[:-2], CLOCK, "", "export, line 6: the line has no end, so it may be half-written\n", 1),
@@ -113,6 +114,13 @@ def main():
         if answer != tuple(wanted):
             wrong += 1
             print(f"of {export!r} with {words} it should print\n{tuple(wanted)}\nand it prints\n{answer}")
+    with tempfile.TemporaryDirectory() as room:
+        with open(os.path.join(room, "rules"), "w", encoding="utf-8") as it:
+            it.write(RULES)
+        ran = subprocess.run([sys.executable, os.path.join(TOOLS, "alarms.py"), "rules", "-", *CLOCK], cwd=room, input=LIST, capture_output=True, text=True, check=False)
+    if not ran.stdout.startswith(ALARMS) or ran.stderr:
+        wrong += 1
+        print(f"of the same list on standard input it prints\n{ran.stdout}{ran.stderr}")
     wrong += pair_faults(count)
     print(f"{len(TRIED)} alarm lists and {count} that are drawn by chance, of which {wrong} aren't as they should be")
     return 1 if wrong else 0
