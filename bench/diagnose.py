@@ -16,6 +16,9 @@ The families:
 - `empty log`: nothing was seen, of 20 to 100 components, within up to 1,000 steps: with 45 that is nearly as large as a question may be. A run without an event explains it.
 - `torus`, `telecom`, `protection`, `adder`: plants in the manner of the literature (`plants.py`). All but the adder have logs of simulated runs, in their whole order, in that of each component, or in blocks, within
   as many steps as the run needs, 1.5 times as many, and twice as many. So many faults as the run has are an upper bound of the answer.
+- `alignments`: a process and the records of a case, each of which may be wrong, while activities may have no record (`plants.py`): the least number of faults is the cost of an alignment. The process is strict, goes round, goes through a sequence, or may do anything.
+- `two devices`: messages on a channel that may lose them, where what was sent and what came are in no order.
+- `hidden wires`: the adder with wires that are 0 or 1 from the beginning, each gate of which is looked at once.
 - `units`: a bus and Z units, as the program's `generate` makes it. Each unit jams, which is a fault that nobody sees, then trips at the bus, and is fixed. Some units trip, one after the other, and the log has an alarm for each.
   So the least number of faults is the number of units that trip, and one step more than that is enough.
 - `valves`: they jam and trip, all under one label, and the alarms have no order.
@@ -27,7 +30,9 @@ The families:
 
 A single question may vary severalfold where anything changes, so only means over families, or over several growths of activities, tell anything.
 
-On 1 December 2026, in one run of this script (29 minutes) on four processors with other work beside: the proved program (of commit b81c8763, whose search is that of today), a build of commit 9ca9733 without its proof as the earlier program, which decides states before events and settles neither the last steps nor the last devices first, and CaDiCaL's library (1.5.3).
+(`alignments`, `two devices` and `hidden wires` came later than the tables below and stand in none of them.)
+
+On 1 December 2026, in one run of this script (29 minutes) on four processors with other work beside: the proved program (of commit b81c8763, whose learnt clauses still had what the guards of a log imply), a build of commit 9ca9733 without its proof as the earlier program, which decides states before events and settles neither the last steps nor the last devices first, and CaDiCaL's library (1.5.3).
 
 | Family | Questions | Seconds to CaDiCaL's library's | the worst | to the earlier program's | MiB to the earlier program's | the worst | Clauses | earlier | Faults of first runs | earlier | least | Not answered: now, earlier, CaDiCaL's library |
 |---|---|---|---|---|---|---|---|---|---|---|---|---|
@@ -65,7 +70,7 @@ from collections import namedtuple
 from grids import question
 from measure import spent, timed
 from meshes import mesh
-from plants import adder, drawn, protection, telecom, torus
+from plants import adder, channel, drawn, flower, looked_at, loop, protection, sequence, strict, telecom, torus
 
 sys.path.append(os.path.join(os.path.dirname(os.path.dirname(os.path.abspath(__file__))), "tools"))
 from refine import refined_text  # noqa: E402
@@ -172,9 +177,31 @@ def simulated():
         yield "adder", f"{bits} bits", steps, *adder(bits, bits, {f"a1-{bits // 2}": 1, f"x2-{bits - 1}": 1})
 
 
+def recorded():
+    """Questions about processes and their records, of which each may be wrong."""
+    for steps in [18, 20, 22]:
+        yield "alignments", "strict process, 17 records", steps, *strict()
+    for count, seed, steps in [(3, 1, 16), (4, 2, 18), (5, 3, 22)]:
+        yield "alignments", f"loop of {count}, 3 rounds", steps, *loop(count, 3, seed, 3)
+    for count, seed in [(16, 1), (20, 2), (24, 3)]:
+        yield "alignments", f"sequence of {count}", count + 4, *sequence(count, seed, 4)
+    for count, records, seed, steps in [(8, 60, 2, 66), (10, 40, 3, 60)]:
+        yield "alignments", f"flower of {count}, {records} records", steps, *flower(count, records, seed)
+
+
+def hidden():
+    """Questions about what nobody sees: the order of alarms of two devices, and the wires of a circuit."""
+    for sent, received in [(4, 2), (5, 3), (6, 2)]:
+        yield "two devices", f"{sent} sent, {received} received", 2 * sent, *channel(sent, received)
+    for bits, steps in [(4, 8), (6, 8), (8, 6)]:
+        yield "hidden wires", f"{bits} bits", steps, *looked_at(bits, bits, {f"a1-{bits // 2}": 1, f"x2-{bits - 1}": 1})
+
+
 def questions(program):
     """Each with its family, its name, the steps, model and log."""
     yield from simulated()
+    yield from recorded()
+    yield from hidden()
     for units in UNITS:
         model, log = generated(program, units)
         trips = sum(line.startswith("alarm,") for line in log)

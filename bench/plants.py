@@ -8,7 +8,11 @@
 - `telecom`: stations with switches under one centre, which sees what a station passes on through its link (Rozé and Cordier, "Diagnosing discrete-event systems: extending
   the diagnoser approach to deal with telecommunication networks", 2002).
 - `protection`: a sensor and a breaker for each line, and a link that carries the sensor's messages (Lamperti and Zanella, "Diagnosis of active systems", 2003).
-- `adder`: a circuit of gates that may stick, whose inputs and outputs are seen, after the full adder of Reiter, "A theory of diagnosis from first principles", 1987.
+- `channel`: messages that may be lost on their way, where neither those that are sent nor those that come are in an order.
+- `strict`, `loop`, `sequence`, `flower`: processes, each a component with a state for each place, whose recorded activities may be missing and whose records may be wrong; a run is then an alignment (Adriansyah, van Dongen and van der Aalst, "Conformance checking using
+  cost-based fitness analysis", 2011).
+- `adder`: a circuit of gates that may stick, whose inputs and outputs are seen, after the full adder of Reiter, "A theory of diagnosis from first principles", 1987. `looked_at` is the same circuit written another way: wires have their
+  values from the beginning, which nobody sees but those of inputs and outputs, and each gate is looked at once.
 
 All are written anew here, from what is known of them, and none is the original. So many faults as a log is drawn with are an upper bound of what it needs.
 """
@@ -131,6 +135,85 @@ def adder(bits, seed, stuck):
         value[sets] = stuck.get(name, VALUES[kind](*[value[wire] for wire in reads]))
     labels = [f"IN-{wire}-{value[wire]}" for wire in inputs] + [f"OUT-{wire}-{value[wire]}" for wire in outputs]
     return lines + events, [f"alarm,a{i},{label}" for i, label in enumerate(labels)]
+
+
+def looked_at(bits, seed, stuck):
+    """The ripple adder with wires that are 0 or 1 from the beginning, a check of each gate, and the log of its inputs and outputs where some gates stick."""
+    inputs = ["c0"] + [f"{word}{i}" for i in range(bits) for word in "ab"]
+    outputs = [f"s{i}" for i in range(bits)] + [f"c{bits}"]
+    lines, events = ["des 1"], []
+    for wire in inputs + [it[3] for it in gates(bits)]:
+        lines += [f"component w{wire}", "state w0 init", "state w1 init", "trans w0 is0 w0", "trans w1 is1 w1"]
+    for name, kind, reads, sets in gates(bits):
+        events += [event(f"{name}-stuck{bit}", [f"w{sets}.is{bit}"], f"CHECK-{name}", True) for bit in range(2)]
+        for values in itertools.product(range(2), repeat=2):
+            parts = [f"w{wire}.is{bit}" for wire, bit in zip(reads, values)]
+            events.append(event(f"{name}-{values[0]}{values[1]}", parts + [f"w{sets}.is{VALUES[kind](*values)}"], f"CHECK-{name}"))
+    for word, wires in [("in", inputs), ("out", outputs)]:
+        events += [event(f"{word}-{wire}-{bit}", [f"w{wire}.is{bit}"], f"{word.upper()}-{wire}-{bit}") for wire in wires for bit in range(2)]
+    _, seen = adder(bits, seed, stuck)
+    checks = [f"alarm,g{i},CHECK-{it[0]}" for i, it in enumerate(gates(bits))]
+    return lines + events, seen + checks
+
+
+def process(activities):
+    """A process of one component: each activity is recorded, or done without a record, which is a fault. From the state `closed` it ends."""
+    lines = ["des 1"] + component("case", "new", activities + [("closed", "end", "over")])
+    names = list(dict.fromkeys(action for _, action, _ in activities))
+    lines += [event(name, [f"case.{name}"], name.upper()) for name in names] + [event("end", ["case.end"], "END")]
+    return lines + [event(f"skipped-{name}", [f"case.{name}"], fault=True) for name in names]
+
+
+def recorded(names):
+    """The log of records in their order, each of which may be wrong, and of the end of the case."""
+    log = [f"maybe,a{i},{name.upper()}" for i, name in enumerate(names)] + [f"alarm,a{len(names)},END"]
+    return log + [f"before,a{i},a{i + 1}" for i in range(len(names))]
+
+
+def disturbed(names, seed, changes):
+    """Records of which some are lost, doubled, or stand one too early."""
+    draw, names = random.Random(seed), list(names)
+    for _ in range(changes):
+        kind, i = draw.choice(["lost", "doubled", "early"]), draw.randrange(len(names) - 1)
+        names[i:i + 2] = {"lost": names[i + 1:i + 2], "doubled": [names[i]] + names[i:i + 2], "early": names[i:i + 2][::-1]}[kind]
+    return names
+
+
+def strict():
+    """A request that is examined, checked and decided, and may be reopened, and a case in which the ticket was mostly checked before the examination."""
+    ways = [("new", "register", "to-examine"), ("to-examine", "examine-well", "to-check"), ("to-examine", "examine-quickly", "to-check"), ("to-check", "check", "checked"), ("checked", "decide", "decided")]
+    ways += [("decided", "reopen", "to-examine"), ("decided", "pay", "closed"), ("decided", "reject", "closed")]
+    case = "register check examine-quickly decide reopen check examine-well decide reopen examine-quickly check decide reopen check examine-well decide pay"
+    return process(ways), recorded(case.split())
+
+
+def loop(count, rounds, seed, changes):
+    """Activities that go round, and a case of some rounds that was disturbed."""
+    ways = [("new", "start", "p0")] + [(f"p{i}", f"do{i}", f"p{(i + 1) % count}") for i in range(count)] + [("p0", "finish", "closed")]
+    names = ["start"] + [f"do{i}" for i in range(count)] * rounds + ["finish"]
+    return process(ways), recorded(disturbed(names, seed, changes))
+
+
+def sequence(count, seed, changes):
+    """Activities one after another, and a case that was disturbed."""
+    places = ["new"] + [f"p{i}" for i in range(1, count)] + ["closed"]
+    ways = [(places[i], f"do{i}", places[i + 1]) for i in range(count)]
+    return process(ways), recorded(disturbed([f"do{i}" for i in range(count)], seed, changes))
+
+
+def flower(count, alarms, seed):
+    """Activities in any order, and a case of so many."""
+    ways = [("new", "start", "p")] + [("p", f"do{i}", "p") for i in range(count)] + [("p", "finish", "closed")]
+    draw = random.Random(seed)
+    return process(ways), recorded(["start"] + [f"do{draw.randrange(count)}" for _ in range(alarms - 2)] + ["finish"])
+
+
+def channel(sent, received):
+    """A sender, a receiver, and a channel that holds one message and may lose it, and so many alarms of each without an order."""
+    lines = ["des 1"] + component("sender", "s", [("s", "send", "s")]) + component("receiver", "r", [("r", "take", "r")])
+    lines += component("channel", "empty", [("empty", "put", "full"), ("full", "get", "empty"), ("full", "lose", "empty")])
+    lines += [event("sent", ["sender.send", "channel.put"], "SENT"), event("received", ["channel.get", "receiver.take"], "RECEIVED"), event("lost", ["channel.lose"], fault=True)]
+    return lines, [f"alarm,s{i},SENT" for i in range(sent)] + [f"alarm,r{i},RECEIVED" for i in range(received)]
 
 
 def read(model):
