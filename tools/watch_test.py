@@ -15,6 +15,7 @@ import signal
 import subprocess
 import sys
 import tempfile
+import threading
 
 TOOLS = os.path.dirname(os.path.abspath(__file__))
 sys.path.insert(0, TOOLS)
@@ -40,6 +41,7 @@ LOOKS = [
     (None, "", "log.csv: No such file or directory\n", 1),
 ]
 BAD = [("three", "1000", "kept.json"), ("+", "1000", "kept.json"), ("3", "-1", "kept.json"), ("3", "1000"), ("3", "1000", "kept.json", "0"), ("3", "1000", "kept.json", "soon"), ("3", "1000", "kept.json", "1", "1")]
+SECONDS = 120
 # Undecided below a budget of 16,000: the words of `verdicts` are the command, the model, the log, N and the budget.
 SLOW = '#!/bin/sh\necho "$5" >> asked\nif [ "$5" -lt 16000 ]; then echo "UNDECIDED 1 3\nrun 0"; exit 11; fi\n'
 
@@ -156,13 +158,20 @@ def followed(room):
     """Yields what is wrong if it looks again and again."""
     room.put(ONE)
     with subprocess.Popen(room.words("+3", "1000", "follow.json", "0.1"), cwd=room.folder, stdout=subprocess.PIPE, stderr=subprocess.PIPE, text=True) as child:
+        # If a line doesn't come, the script is ended, and the lines that are waited for are empty.
+        late = threading.Timer(SECONDS, child.kill)
+        late.start()
         said = "".join(child.stdout.readline() for _ in range(4))
+        second = room.look("+3", "1000", "follow.json")
         room.put("")
         beside = child.stderr.readline()
         room.put(ONE + OTHER)
         said += "".join(child.stdout.readline() for _ in range(3))
         child.send_signal(signal.SIGTERM)
         said += child.stdout.read()
+        late.cancel()
+    if second != ("", "follow.json: another call is working with it, so nothing was asked\n", 1):
+        yield f"beside a call that goes on the second one says {second}"
     if re.sub(r"(?m)^20\S+ ", "", said) != FIRST + CLOGGED or "a1 is gone" not in beside or child.returncode != 0:
         yield f"again and again it says {said!r} and {beside!r}, with the status {child.returncode}"
 
