@@ -10,7 +10,7 @@ PROGRAM is the program as `rt run` builds it, crates/diagnose_cli/out/diagnose_c
 - clingo (Debian: gringo), with an encoding of the question that is its own, `question.lp`, and `#minimize`. Its seconds are those of the whole, of which grounding is a part;
 - clasp (Debian: clasp) as a MaxSAT solver: the formula of `cnf` for `any`, and for each fault event in each step, and for each doubtful alarm, a soft clause against it. Its seconds are those of reading and search, without the writing of the formula.
 
-clingo and clasp look for the optimum by cores (`--opt-strategy=usc`), which took them less time than descending on most of these families. Seconds are those of the processor; who has no answer after 20 is late, and counts as 20. The plants are drawn with SEED, 3 if none is given. With --agree each is asked COUNT small questions, some with doubtful alarms, and each must have the same least number of faults, or that nothing explains the log.
+clingo and clasp look for the optimum by cores (`--opt-strategy=usc`), and else search as they come. Seconds are those of the processor; who has no answer after 20 is late, and counts as 20. The plants are drawn with SEED, 3 if none is given. With --agree each is asked COUNT small questions, some with doubtful alarms, and each must have the same least number of faults, or that nothing explains the log.
 
 Status 0: nobody's answer differs, 1: some does.
 """
@@ -36,6 +36,8 @@ from texts import log_of, model_of  # noqa: E402
 BUDGET = 1 << 60
 # Seconds below this can't be told apart from none, and count as so many.
 LEAST = 0.01
+# The logs of protections: lines, order, how it is called, and how many times the steps that they need.
+PROTECTIONS = [(1, "whole", "in their order", [1, 1.3]), (3, "whole", "in their order", [1, 1.5]), (3, "component", "in that of each component", [1, 1.5])]
 # What one of them says: the seconds, and the answer: the least number of faults, NONE, or LATE.
 Said = namedtuple("Said", ["seconds", "answer"])
 NONE, LATE = "none", "late"
@@ -173,8 +175,9 @@ def questions(program, seed):
     for order, words in [("whole", "in their order"), ("component", "in that of each component")]:
         for slack in [1, 1.5]:
             yield "telecom", f"28 components, 30 alarms {words}, {slack} times the steps", *drawn(telecom(4, 5), 30, 6, seed, order, slack)
-    for count, order, slack in [(1, "whole", 1), (1, "whole", 1.3), (3, "whole", 1), (3, "whole", 1.5), (3, "component", 1), (3, "component", 1.5)]:
-        yield "protection", f"{count} lines, 24 alarms, {order}, {slack} times the steps", *drawn(protection(count), 24, 4, seed, order, slack)
+    for count, order, words, slacks in PROTECTIONS:
+        for slack in slacks:
+            yield "protection", f"{count} {'line' if count == 1 else 'lines'}, 24 alarms {words}, {slack} times the steps", *drawn(protection(count), 24, 4, seed, order, slack)
     for bits, steps in [(3, 12), (4, 16), (6, 14)]:
         yield "adder", f"{bits} bits", steps, *adder(bits, seed, {f"a1-{bits // 2}": 1, f"x2-{bits - 1}": 1})
     for units in [20, 100]:
