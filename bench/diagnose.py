@@ -56,6 +56,8 @@ So the program takes 0.54 of the library's seconds over all families, 0.5 and 0.
 The worst answered ones are a protection's line (5.3; late within twice the steps, where the library takes 6 seconds) and a torus in blocks (2.5). First runs have 1.5 times the least number of faults in all (4.4 before), and 1.84 times in the geometric mean. Memory is 1.01 of what it was in the mean of the families; it follows the clauses that are learnt, so single questions take up to 1.9 times as much.
 An empty log of 45 components within 1,000 steps, nearly as large as a question may be, takes no clause, 1.1 seconds and 375 MiB: by a profile nearly all of this is spent on the writing of the formula, and 2 % on watches.
 
+About refined models four families' worth was asked on the same day with --refined and --seconds, by a build without its proof, under heavy load, with 10 seconds for each (the other families weren't asked; protections gain nothing, see docs/speed.md). To the library's seconds about the model as written, and to those of the program about it: toruses 0.06 and 0.09 in their whole order, 0.05 and 0.10 in that of each component, 0.17 and 0.14 in blocks; stations 0.26 and 0.37; adders 0.37 and 0.44; meshes 0.65 and 1.11 (the worst 1.46, 0.08 seconds).
+
 What stays dear are more steps than a log needs. With 1.5 times and twice as many steps it takes so many times as many clauses (and twenty more, in geometric means over the questions that were answered): units 2.2 and 2.6, grids 2.8, protection 5.6 and 12, telecom 9.9 and 35, torus 24 and 48 in
 the whole order, 7 and 46 in that of each component, 17 and 107 in blocks; meshes 0.9. bench/NOTES.md says what was tried against that.
 """
