@@ -2,7 +2,7 @@
 
     sh check/edits.sh [--since COMMIT] [CRATE..]
 
-The edits beside the gate stand in more-edits.txt of their crate, each behind a line `# NAME`, or in more-edits/, each in a file of its own.
+The edits beside the gate stand in more-edits.txt of their crate, each behind a line `# NAME`.
 
 It tries those of the crates that are named, or of all; with --since only those of crates of which a file changed since the commit,
 or a file of a crate below. It works on a copy, by the command that tries edits alone (rt must-fail), which begins with what checks on
@@ -49,9 +49,6 @@ def unpacked(path):
 
 def beside_the_gate(crate):
     """The edits in a crate's folder that the gate doesn't try: the file of each, its name and its text."""
-    for path in sorted(glob.glob(f"{crate}/more-edits/*")):
-        with open(path, encoding="utf-8") as it:
-            yield path, os.path.basename(path).removesuffix(".edit"), it.read()
     if os.path.isfile(f"{crate}/{PACKED}"):
         for name, text in unpacked(f"{crate}/{PACKED}"):
             yield f"{crate}/{PACKED}", name, text
