@@ -16,7 +16,7 @@ The families:
 - `empty log`: nothing was seen, of 20 to 100 components, within up to 1,000 steps: with 45 that is nearly as large as a question may be. A run without an event explains it.
 - `torus`, `telecom`, `protection`, `adder`: plants in the manner of the literature (`plants.py`). All but the adder have logs of simulated runs, in their whole order, in that of each component, or in blocks, within
   as many steps as the run needs, 1.5 times as many, and twice as many. So many faults as the run has are an upper bound of the answer.
-- `alignments`: a process and the records of a case, each of which may be wrong, while activities may have no record (`plants.py`): the least number of faults is the cost of an alignment. The process is strict, goes round, goes through a sequence, or may do anything.
+- `diagnose_alignments`: a process and the records of a case, each of which may be wrong, while activities may have no record (`plants.py`): the least number of faults is the cost of an alignment. The process is strict, goes round, goes through a sequence, or may do anything.
 - `two devices`: messages on a channel that may lose them, where what was sent and what came are in no order.
 - `hidden wires`: the adder with wires that are 0 or 1 from the beginning, each gate of which is looked at once.
 - `units`: a bus and Z units, as the program's `generate` makes it. Each unit jams, which is a fault that nobody sees, then trips at the bus, and is fixed. Some units trip, one after the other, and the log has an alarm for each.
@@ -30,7 +30,7 @@ The families:
 
 A single question may vary severalfold where anything changes, so only means over families, or over several growths of activities, tell anything.
 
-(`alignments`, `two devices` and `hidden wires` came later than the tables below and stand in none of them.)
+(`diagnose_alignments`, `two devices` and `hidden wires` came later than the tables below and stand in none of them.)
 
 On 1 December 2026, in one run of this script (29 minutes) on four processors with other work beside: the proved program (of commit b81c8763, whose learnt clauses still had what the guards of a log imply), a build of commit 9ca9733 without its proof as the earlier program, which decides states before events and settles neither the last steps nor the last devices first, and CaDiCaL's library (1.5.3).
 

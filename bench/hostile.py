@@ -81,7 +81,7 @@ READERS = {
     "proof": [["check", "formula", TEXT]],
     "costs": [["cheapest", "model", "log", TEXT, "3", "1000"]],
 }
-FILES = {"model": "valve/model.des", "log": "valve/tripped.csv", "formula": "checked_proofs/four_clauses.cnf", "proof": "checked_proofs/two_steps.lrat"}
+FILES = {"model": "diagnose_valve/model.des", "log": "diagnose_valve/tripped.csv", "formula": "check_proofs/four_clauses.cnf", "proof": "check_proofs/two_steps.lrat"}
 # A plant with an event whose name has 64 signs, and another; and one of 64 components, each with an event and a label of its own.
 LONG = "des 1\ncomponent p\nstate s init\ntrans s a s\nevent " + "e" * 64 + " : p.a\nevent beat : p.a\n"
 LABELLED = "des 1\n" + "".join(f"component u{it}\nstate s init\ntrans s a s\nevent e{it} alarm T{it:063} : u{it}.a\n" for it in range(64))
