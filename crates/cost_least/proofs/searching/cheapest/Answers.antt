@@ -1,6 +1,7 @@
-use Rattle.std.proofs.Common.{◌≤◌, ◌∙◌, List, ap, inl, inr, subst, sym}
+use Rattle.std.proofs.Common.{◌≤◌, ◌∙◌, ◌+◌, List, ap, inl, inr, subst, sym}
 use Rattle.des_base.proofs.Results.{on_err}
 use Rattle.des_base.specs.declared.TheConstants.{MOST_STEPS}
+use Rattle.event_costs.specs.declared.TheConstants.{MOST_COST}
 use Rattle.least_faults.proofs.Closing.{grown_closed, grown_not, marked_ready}
 use Rattle.least_faults.specs.Growing.{HasGrownWithin}
 use Rattle.proof_ledger.specs.Book.{axioms_of}

@@ -1,8 +1,10 @@
-use Rattle.std.proofs.Common.{◌≤◌, ℕ, subst, sym}
+use Rattle.std.proofs.Common.{◌≤◌, ◌+◌, ℕ, subst, sym}
 use Rattle.std.proofs.lemmas.Result.{IfOk-weaker as ok_weaker, on_err_weaker}
 use Rattle.des_base.proofs.Results.{on_err}
 use Rattle.des_base.specs.declared.TheConstants.{MOST_STEPS}
 use Rattle.event_costs.specs.StoredCosts.{GivesCosts}
+use Rattle.event_costs.specs.declared.TheConstants.{MOST_COST}
+use Rattle.proof_ledger.specs.Book.{axioms_of}
 use Rattle.step_encode.specs.Coded.{CodedSteps}
 use Rattle.cost_least.proofs.Rounds.{ends_absent, ends_later, ends_unknown, known_counted, quits_later}
 use Rattle.cost_least.proofs.Weighed.{belongs_still, goes_both}
