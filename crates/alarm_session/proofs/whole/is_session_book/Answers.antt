@@ -5,7 +5,7 @@ use Rattle.alarm_session.proofs.whole.is_session_book.Goals as goal
 pub returns : goal.returns
 returns g c = record {
   axioms = refl;
-  poses = book_poses c.args.setting.net.now c.args.setting.steps c.args.kept.now c.requires c.is_built.ensures.network c.is_whole.ensures.whole.valid c.guards-guards.result.now c.guards-guards.ensures.guards;
+  poses = book_poses c.args.setting.net.now c.args.setting.steps c.args.kept.now c.requires c.is_built.ensures.network c.is_whole.ensures.whole.valid _ c.has_guards.ensures.guards;
   lean = book_lean c.args.setting.net.now c.args.setting.steps c.args.kept.now c.requires;
   valid = c.is_valid.ensures;
 }
