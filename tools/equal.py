@@ -94,6 +94,7 @@ def main(words):
         sys.exit(__doc__)
     text, sets = ordered(words[0])
     sys.stdout.write(text)
+    sys.stdout.flush()
     for names in sets:
         print(f"equal, and in this order now: {' '.join(names)}", file=sys.stderr)
     return 0
