@@ -46,7 +46,7 @@ pub fn begin<T: Fn(u32, u32) -> bool, R: Fn(u32) -> u64>(
         drop(book);
         return Err(SessionRefusal::TooLarge { size });
     }
-    let solver = Solver::new(setting.alloc, rank);
+    let solver = Solver::for_passing_assumptions(setting.alloc, rank);
     let mut book = book;
     match build(
         setting.alloc,

@@ -106,11 +106,10 @@ pub fn assumed_level(trail: &Trail, assumptions: &[Lit]) -> u32
     level
 }
 
-// The level by which all assumptions but the last were taken. The last may be a bound, which the next search won't have, so what follows from it is worth more
-// by itself.
-pub fn lasting_level(trail: &Trail, assumptions: &[Lit]) -> u32
-    ensures { IsGreatestLevel trail.now.literals trail.now.reasons (take (length assumptions.now - 1) assumptions.now) result }
+// The level by which the assumptions were taken that last: all but so many of the last ones, which pass.
+pub fn lasting_level(trail: &Trail, assumptions: &[Lit], passing: usize) -> u32
+    ensures { IsGreatestLevel trail.now.literals trail.now.reasons (take (length assumptions.now - passing) assumptions.now) result }
 {
-    let others = assumptions.len().saturating_sub(1);
-    greatest_level(trail, &assumptions[..others])
+    let lasting = assumptions.len().saturating_sub(passing);
+    greatest_level(trail, &assumptions[..lasting])
 }

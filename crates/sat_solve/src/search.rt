@@ -26,6 +26,8 @@ pub struct Search<R> {
     pub learner: Learner,
     // `assumptions[..taken]` are true.
     pub taken: usize,
+    // Later searches won't have so many of the last assumptions.
+    pub passing: usize,
     pub vars: u32,
     // There is always room to attach `spare` clauses.
     pub spare: usize,
@@ -135,7 +137,7 @@ impl<R: Fn(u32) -> u64> Search<R> {
         self.propagator.reserve_clauses(self.spare + 1)?;
         let trail = self.propagator.trail();
         self.learner
-            .keep_decisions_to(lasting_level(trail, assumptions));
+            .keep_decisions_to(lasting_level(trail, assumptions, self.passing));
         let learnt = self.learner.analyse(trail, book.clauses(), conflict)?;
         let id = book.put_learnt(learnt.clause.as_slice(), learnt.hints.as_slice())?;
         *budget -= 1;

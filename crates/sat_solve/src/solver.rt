@@ -58,23 +58,22 @@ impl<R: Drop> Drop for Solver<R> {
 
 impl<R: Fn(u32) -> u64> Solver<R> {
     /// A solver with no variables and no clauses. The order must have no variables yet.
+    ///
+    /// The last assumption of a search passes, as a bound does, and the others are taken to last. What follows from those that last is resolved out of learnt clauses,
+    /// so that these are shorter. If others are assumed later, the answers hold all the same.
     pub fn new(alloc: Global, order: Order<R>) -> Solver<R>
         requires empty { order.waiting ≡ [] }
         ensures { result ≡ record { order = order; adopted = []; assignment = []; vars = 0; spare = 0 } }
     {
-        Solver {
-            search: Search {
-                order,
-                advice: Advice::new(alloc),
-                propagator: Propagator::new(alloc),
-                learner: Learner::new(alloc),
-                taken: 0,
-                vars: 0,
-                spare: 0,
-            },
-            assignment: Assignment::new(alloc),
-            clauses: 0,
-        }
+        empty(alloc, order, 1)
+    }
+
+    /// The same for searches of which each has other assumptions: what follows from these stays in learnt clauses, which serve more of the later searches so.
+    pub fn for_passing_assumptions(alloc: Global, order: Order<R>) -> Solver<R>
+        requires empty { order.waiting ≡ [] }
+        ensures { result ≡ record { order = order; adopted = []; assignment = []; vars = 0; spare = 0 } }
+    {
+        empty(alloc, order, usize::MAX)
     }
 
     /// Makes sure that there are this many variables, and room to adopt this many more clauses. Variables that are added wait, and have the
@@ -166,6 +165,27 @@ impl<R: Fn(u32) -> u64> Solver<R> {
         ensures enough { self.now.vars ≤ length result.now }
     {
         &self.assignment
+    }
+}
+
+// A solver with nothing in it, for searches of which so many of the last assumptions pass.
+fn empty<R>(alloc: Global, order: Order<R>, passing: usize) -> Solver<R>
+    requires empty { order.waiting ≡ [] }
+    ensures { result ≡ record { order = order; adopted = []; assignment = []; vars = 0; spare = 0 } }
+{
+    Solver {
+        search: Search {
+            order,
+            advice: Advice::new(alloc),
+            propagator: Propagator::new(alloc),
+            learner: Learner::new(alloc),
+            taken: 0,
+            passing,
+            vars: 0,
+            spare: 0,
+        },
+        assignment: Assignment::new(alloc),
+        clauses: 0,
     }
 }
 

@@ -36,5 +36,5 @@ returns-in-Ok-clause-begun g c =
     record {
       stage = stage_begun c.args.setting.net.now c.args.setting.steps (record { log = c.new-log.result; size = c.question_size-size.result; parts = c.in-Ok.parts; book = c.build.new.book }) c.args.book.entries
           c.new-log.ensures c.requires.empty adds built.columns built.built;
-      rank_is = built.rank ∙ ap (λ (s : SolverState _). s.order.rank) c.new-solver.ensures;
+      rank_is = built.rank ∙ ap (λ (s : SolverState _). s.order.rank) c.for_passing_assumptions-solver.ensures;
     }
