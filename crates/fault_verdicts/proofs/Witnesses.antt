@@ -10,7 +10,7 @@ use Rattle.des_net.specs.Network.{Net}
 use Rattle.fault_verdicts.proofs.Going.{belong_on}
 use Rattle.fault_verdicts.proofs.Judged.{has_or_not}
 use Rattle.fault_verdicts.specs.Judged.{IsBestRun, IsJudged, IsVerdictOpenAtMost, IsPossibleFound}
-use Rattle.fault_verdicts.specs.Judges.{AddsPossible, DiffersIn, IsEventJudged, IsJudgeOf, IsLeftUnjudged, KeepsSteps, matter_of}
+use Rattle.fault_verdicts.specs.Judges.{AddsPossible, DiffersIn, IsEventJudged, IsJudgeOf, IsLeftUnjudged, Matter, matter_of}
 use Rattle.fault_verdicts.specs.Judging.{KeepsStepsAndLog}
 use Rattle.fault_verdicts.specs.Verdicts.{IsPossible}
 use Rattle.answers.specs.declared.verdict.Verdict.{Verdict}
@@ -88,8 +88,9 @@ judge_after net log best e budget old new before after found goes is adds judged
     (λ run same. found_is_best net log new.parts.step.steps best.faults e budget best.run before after found run judged same)
     (subst (λ (s : CodedSteps). AllByRecursion (IsBestRun net log s.steps best.faults) old.others.items) (sym goes.step) is.others))
 
-pub steps_kept : {R : Type 0} (old new : Carried R) → KeepsStepsAndLog 1 old.parts new.parts → KeepsSteps old new
-steps_kept old new goes = record { steps = ap (λ (s : CodedSteps). s.steps) goes.step; rank = goes.rank }
+-- the matter is as it was
+pub same_matter : {R : Type 0} (net : Net) (log : Log) (best : Best) (budget : ℕ) (old new : Carried R) → KeepsStepsAndLog 1 old.parts new.parts → matter_of net log best budget new ≡ matter_of net log best budget old
+same_matter net log best budget old new goes = ap {B = Matter} (λ (s : CodedSteps). record { net = net; log = log; steps = s.steps; best = best; budget = budget }) goes.step
 
 -- what was asked, by the steps as they were before
 pub asked_of : {R : Type 0} (net : Net) (log : Log) (best : Best) (e budget : ℕ) (old new : Carried R) (before after : List BookEntry) (found : Verdict) → KeepsStepsAndLog 1 old.parts new.parts → IsJudged net log new.parts.step.steps best.faults e budget best.run before after found →

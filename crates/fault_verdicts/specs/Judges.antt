@@ -4,6 +4,7 @@ use Rattle.std.specs.List.{AllByRecursion}
 use Rattle.des_base.specs.declared.TheConstants.{MOST_STEPS}
 use Rattle.des_net.specs.Network.{Net}
 use Rattle.fault_verdicts.specs.Judged.{IsBestRun, IsJudged, IsVerdictOpenAtMost, IsPossibleFound}
+use Rattle.fault_verdicts.specs.Judging.{KeepsStepsAndLog}
 use Rattle.fault_verdicts.specs.Ready.{AreReadyForVerdicts}
 use Rattle.answers.specs.declared.verdict.Verdict.{Verdict}
 use Rattle.answers.specs.declared.verdict.Verdict.TheVariants.{Possible}
@@ -62,10 +63,10 @@ pub record JudgeState (R : Type 0) : Type 0 where
   pub parts : Parts R
   pub book : List BookEntry
 
--- The same matter is judged, and what ranks is the same.
+-- The same matter is judged, and beside further columns at most one variable was made.
 pub record KeepsMatter {R : Type 0} (old new : JudgeState R) : Type 0 where
   pub matter : new.matter ≡ old.matter
-  pub rank : new.parts.solver.order.rank ≡ old.parts.solver.order.rank
+  pub goes_on : KeepsStepsAndLog 1 old.parts new.parts
 
 -- what is judged, within the steps of the parts that are kept
 abbrev pub matter_of : {R : Type 0} → Net → Log → Best → ℕ → Carried R → Matter
@@ -83,11 +84,6 @@ pub record IsJudgeOf {R : Type 0} (net : Net) (log : Log) (best : Best) (kept : 
 pub record IsReadyToJudge {R : Type 0} (may : R → ℕ → Type 0) (gives : R → ℕ → ℕ → Type 0) (net : Net) (log : Log) (best : Best) (kept : Carried R) : Type 0 where
   pub is_of : IsJudgeOf net log best kept
   pub ready : AreReadyForVerdicts may gives kept.parts kept.book.entries
-
--- the steps stay, and what ranks
-pub record KeepsSteps {R : Type 0} (old new : Carried R) : Type 0 where
-  pub steps : new.parts.step.steps ≡ old.parts.step.steps
-  pub rank : new.parts.solver.order.rank ≡ old.parts.solver.order.rank
 
 -- ---- the runs that were found
 

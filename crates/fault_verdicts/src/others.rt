@@ -2,7 +2,8 @@
 ghost use Rattle.std.specs.Prelude.{◌≡◌, ◌<◌, Contains, length, true, IfOk, IfSome, OnErr};
 ghost use Rattle.des_net.specs.Network.{is_fault};
 ghost use Rattle.fault_verdicts.specs.Judged.{IsPossibleFound};
-ghost use Rattle.fault_verdicts.specs.Judges.{AddsPossible, DiffersIn, IsEventJudged, IsJudgeOf, IsLeftUnjudged, IsReadyToJudge, KeepsSteps, matter_of};
+ghost use Rattle.fault_verdicts.specs.Judges.{AddsPossible, DiffersIn, IsEventJudged, IsJudgeOf, IsLeftUnjudged, IsReadyToJudge, matter_of};
+ghost use Rattle.fault_verdicts.specs.Judging.{KeepsStepsAndLog};
 ghost use Rattle.least_faults.specs.Growing.{HasGrownWithin};
 
 use crate::judging::{has_event, verdict};
@@ -25,7 +26,7 @@ pub fn judge_kept<R: Fn(u32) -> u64>(
     requires known { event < length about.net.now.events }
     requires fault { is_fault about.net.now event ≡ true }
     ensures ready { IsReadyToJudge R.pre R.post about.entry.net.now about.entry.log.now about.entry.best.now kept.new }
-    ensures stays { KeepsSteps kept.old kept.new }
+    ensures goes_on { KeepsStepsAndLog 1 kept.old.parts kept.new.parts }
     ensures grown { HasGrownWithin about.entry.budget kept.old.book.entries kept.new.book.entries }
     ensures judged { IfOk result (IsEventJudged (matter_of about.entry.net.now about.entry.log.now about.entry.best.now about.entry.budget kept.old) event kept.old.book.entries kept.new.book.entries) }
     ensures unjudged { OnErr result (IsLeftUnjudged (matter_of about.entry.net.now about.entry.log.now about.entry.best.now about.entry.budget kept.old) event kept.old.book.entries kept.new.book.entries) }
@@ -74,7 +75,7 @@ fn ask_kept<R: Fn(u32) -> u64>(
     requires known { event < length about.net.now.events }
     requires fault { is_fault about.net.now event ≡ true }
     ensures ready { IsReadyToJudge R.pre R.post about.entry.net.now about.entry.log.now about.entry.best.now kept.new }
-    ensures stays { KeepsSteps kept.old kept.new }
+    ensures goes_on { KeepsStepsAndLog 1 kept.old.parts kept.new.parts }
     ensures grown { HasGrownWithin about.entry.budget kept.old.book.entries kept.new.book.entries }
     ensures judged { IfOk result (IsEventJudged (matter_of about.entry.net.now about.entry.log.now about.entry.best.now about.entry.budget kept.old) event kept.old.book.entries kept.new.book.entries) }
     ensures unjudged { OnErr result (IsLeftUnjudged (matter_of about.entry.net.now about.entry.log.now about.entry.best.now about.entry.budget kept.old) event kept.old.book.entries kept.new.book.entries) }

@@ -74,6 +74,8 @@ impl<'a> Checker<'a> {
     }
 
     /// Takes an addition. It ends the proof if the hints don't derive the clause, or if the clause is empty.
+    ///
+    /// If memory runs out, the clause that was held by this number may be gone, and nothing is said of what was reached: begin anew.
     pub fn add(
         &mut self,
         line: u32,

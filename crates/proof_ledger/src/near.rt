@@ -119,7 +119,7 @@ fn clear(numbers: &mut Vec<u32>, place: u64)
     }
 }
 
-// How many literals the clause of a place has.
+// How many literals the clause of a place has. It has no `ensures`: it only says when to pack, and packing changes nothing that is held.
 fn literal_count(clauses: &Clauses, numbers: &[u32], place: u64) -> usize {
     match clauses.find(ClauseId(number_at(numbers, place))) {
         Some(clause) => clause.len(),

@@ -18,7 +18,7 @@ pub(crate) struct StepParts {
 }
 
 impl StepParts {
-    // Parts without anything in them.
+    // Parts without anything in them. It has no `ensures`: whoever reads a step into parts empties them first.
     pub(crate) fn new(alloc: Global) -> StepParts {
         StepParts {
             clause: Vec::new(alloc),

@@ -1,8 +1,12 @@
 use Rattle.des_base.proofs.Results.{on_err}
 use Rattle.std.proofs.Common.{inl, refl}
-use Rattle.fault_verdicts.proofs.Witnesses.{asked_of, judge_after, judge_stays, steps_kept, unasked_of, unkept_of}
+use Rattle.fault_verdicts.proofs.Going.{goes_nowhere}
+use Rattle.fault_verdicts.proofs.Witnesses.{asked_of, judge_after, judge_stays, unasked_of, unkept_of}
 use Rattle.fault_verdicts.proofs.others.ask_kept.Goals as goal
 use Rattle.least_faults.proofs.Closing.{grown_not}
+
+pub returns-then-count-gt-MOST_VARIABLES-clause-goes_on : goal.returns-then-count-gt-MOST_VARIABLES-clause-goes_on
+returns-then-count-gt-MOST_VARIABLES-clause-goes_on g c = goes_nowhere 1 c.args.kept.now.parts
 
 pub returns-then-count-gt-MOST_VARIABLES-clause-grown : goal.returns-then-count-gt-MOST_VARIABLES-clause-grown
 returns-then-count-gt-MOST_VARIABLES-clause-grown g c = grown_not c.args.about.budget c.args.kept.now.book.entries
@@ -15,9 +19,6 @@ returns-in_err-found-clause-ready g c =
       ready = c.verdict.ensures.ready;
     }
 
-pub returns-in_err-found-clause-stays : goal.returns-in_err-found-clause-stays
-returns-in_err-found-clause-stays g c = steps_kept c.args.kept.now (record c.args.kept.now { parts = c.verdict.new.parts; book = c.verdict.new.book }) c.verdict.ensures.goes_on
-
 pub returns-in_err-keep-clause-ready : goal.returns-in_err-keep-clause-ready
 returns-in_err-keep-clause-ready g c =
     let about = c.args.about in
@@ -27,9 +28,6 @@ returns-in_err-keep-clause-ready g c =
       ready = c.verdict.ensures.ready;
     }
 
-pub returns-in_err-keep-clause-stays : goal.returns-in_err-keep-clause-stays
-returns-in_err-keep-clause-stays g c = steps_kept c.args.kept.now (record { parts = c.verdict.new.parts; book = c.verdict.new.book; others = c.keep.new.others }) c.verdict.ensures.goes_on
-
 pub returns-clause-ready : goal.returns-clause-ready
 returns-clause-ready g c =
     let about = c.args.about in
@@ -38,9 +36,6 @@ returns-clause-ready g c =
           c.verdict.ensures.goes_on c.requires.ready.is_of c.keep.ensures c.in_ok-found.ensures.judged;
       ready = c.verdict.ensures.ready;
     }
-
-pub returns-clause-stays : goal.returns-clause-stays
-returns-clause-stays g c = steps_kept c.args.kept.now (record { parts = c.verdict.new.parts; book = c.verdict.new.book; others = c.keep.new.others }) c.verdict.ensures.goes_on
 
 pub returns-clause-judged : goal.returns-clause-judged
 returns-clause-judged g c =

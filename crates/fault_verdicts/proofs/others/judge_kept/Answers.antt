@@ -1,8 +1,15 @@
 use Rattle.des_base.proofs.Results.{on_err}
 use Rattle.std.proofs.Common.{inl, inr, refl, subst, IfSome}
+use Rattle.fault_verdicts.proofs.Going.{goes_nowhere}
 use Rattle.fault_verdicts.proofs.others.judge_kept.Goals as goal
 use Rattle.fault_verdicts.specs.Judged.{IsPossibleFound}
 use Rattle.least_faults.proofs.Closing.{grown_not}
+
+pub returns-in_err-witness-clause-goes_on : goal.returns-in_err-witness-clause-goes_on
+returns-in_err-witness-clause-goes_on g c = goes_nowhere 1 c.args.kept.now.parts
+
+pub returns-in-Some-clause-goes_on : goal.returns-in-Some-clause-goes_on
+returns-in-Some-clause-goes_on g c = goes_nowhere 1 c.args.kept.now.parts
 
 pub returns-in_err-witness-clause-grown : goal.returns-in_err-witness-clause-grown
 returns-in_err-witness-clause-grown g c = grown_not c.args.about.budget c.args.kept.now.book.entries
