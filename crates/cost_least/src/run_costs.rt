@@ -3,6 +3,7 @@ ghost use Rattle.std.specs.Prelude.{◌≡◌, ◌<◌, ◌≤◌, ◌*◌, ℕ,
 ghost use Rattle.event_costs.specs.StoredCosts.{IsCost, GivesCosts};
 ghost use Rattle.replay.specs.Traced.{event_of, word_of};
 ghost use Rattle.cost_least.specs.Entries.{entry_cost};
+ghost use Rattle.replay.specs.declared.TheConstants.{MOST_RUN_STEPS};
 
 use des_net::Network;
 use event_costs::Costs;
@@ -13,7 +14,7 @@ pub fn run_cost<C: Fn(u32) -> u32>(net: &Network, costs: &Costs<C>, entries: &[R
     requires cost { IsCost C.pre C.post costs.now.cost costs.now.net }
     requires net { costs.now.net ≡ net.now }
     requires known { All (λ e. e < length net.now.events) (word_of entries.now) }
-    requires few { length entries.now ≤ 4000000 }
+    requires few { length entries.now ≤ MOST_RUN_STEPS }
     ensures { (cost : ℕ → ℕ) → GivesCosts C.post costs.now.cost net.now cost → result ≡ sum_by (entry_cost net.now cost) entries.now }
 {
     let mut cost = 0;

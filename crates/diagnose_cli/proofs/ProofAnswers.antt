@@ -21,6 +21,7 @@ use Rattle.diagnose_cli.specs.Replies.{TellsBelow, TellsProof, TellsRefutation, 
 use Rattle.diagnose_cli.proofs.Diagnosing.{answers_question, found_decided}
 use Rattle.verdict_telling.proofs.Runs.{found_known}
 use Rattle.diagnose_cli.proofs.ProofsReadBack.{tells_refutation}
+use Rattle.replay.specs.declared.TheConstants.{MOST_FAULTS}
 
 module _ (net : Net) (log : AlarmLog) (n : ℕ) (book : List BookEntry) where
   -- by the answer, where T is what a reply tells
@@ -39,7 +40,7 @@ module _ (net : Net) (log : AlarmLog) (n : ℕ) (book : List BookEntry) where
   comes : (found : Found) (answer : Refuted) → IsRefutedFor net log n book found answer → Comes found (TellsProof net log n book found) answer
   comes (Explained best) answer h = below (Explained best) best.faults answer h
   comes Absent answer h = within Absent (TellsProof net log n book Absent) None answer (λ reply tells. tells) h
-  comes (Many best) answer h = within (Many best) (TellsProof net log n book (Many best)) (Some 255) answer (λ reply tells. tells) h
+  comes (Many best) answer h = within (Many best) (TellsProof net log n book (Many best)) (Some MOST_FAULTS) answer (λ reply tells. tells) h
   comes (Undecided lo best) answer h = subst (Comes (Undecided lo best) (TellsProof net log n book (Undecided lo best))) (sym h) (refl, λ reply is. is)
 
 module _ (net : Net) (log : AlarmLog) (n budget : ℕ) (book : List BookEntry) (answer : Refuted) (says : IsRefuting net log n budget book answer) where

@@ -31,7 +31,8 @@ use Rattle.diagnose_cli.specs.SessionReplies.{IsSession}
 use Rattle.diagnose_cli.specs.Tasks.{Called, NamedCommand, OverNone, OverOne, OverThree, OverTwo, Reply, Speech, asking_nothing, called_among, calls_by, one, read_words, size_over_one, size_over_three, size_over_two, speaking}
 use Rattle.diagnose_cli.specs.TwinReplies.{LeavesOfWord, SaysOfWord}
 use Rattle.diagnose_cli.specs.VerdictReplies.{IsVerdicts}
-use Rattle.diagnose_cli.specs.Words.{limits_of, most_number, most_steps, units_of}
+use Rattle.des_base.specs.declared.TheConstants.{MOST_STEPS}
+use Rattle.diagnose_cli.specs.Words.{limits_of, most_number, units_of}
 
 -- ---- commands that ask nothing
 
@@ -61,7 +62,7 @@ replay = record {
   name = codes "replay";
   count = 5;
   Word = ℕ;
-  spelled = λ words. number_up_to most_steps (word_at words 4);
+  spelled = λ words. number_up_to MOST_STEPS (word_at words 4);
   task = λ steps. asking_nothing (model ∷ log ∷ run ∷ []) (λ texts reply. OverThree texts (λ text alarms events. SaysReplayed steps text alarms events reply));
 }
 
@@ -113,7 +114,7 @@ asking question = record {
   name = question.name;
   count = 5;
   Word = ℕ × question.Word;
-  spelled = λ words. option_and_then (λ n. option_map (λ last. (n, last)) (question.spelled (word_at words 4))) (number_up_to most_steps (word_at words 3));
+  spelled = λ words. option_and_then (λ n. option_map (λ last. (n, last)) (question.spelled (word_at words 4))) (number_up_to MOST_STEPS (word_at words 3));
   task = λ word. record {
     files = model ∷ log ∷ [];
     lacks_fault = λ words texts. false;
@@ -155,7 +156,7 @@ bench = record {
 abbrev pub twin_of : List ℕ → List ℕ → List ℕ → Option TwinCommand
 twin_of steps after budget =
     option_and_then (λ n.
-    option_and_then (λ d. option_map (λ b. record { steps = n; after = d; budget = b }) (number_up_to most_number budget)) (number_up_to most_steps after)) (number_up_to most_steps steps)
+    option_and_then (λ d. option_map (λ b. record { steps = n; after = d; budget = b }) (number_up_to most_number budget)) (number_up_to MOST_STEPS after)) (number_up_to MOST_STEPS steps)
 
 -- the word behind the model names no fault event of it
 abbrev pub names_no_fault : List (List ℕ) → List (List ℕ) → Bool

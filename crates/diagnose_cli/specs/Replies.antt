@@ -37,6 +37,7 @@ use Rattle.inquiries.specs.Formula.{IsFormulaOf, question_formula}
 use Rattle.inquiries.specs.Refuted.{IsVerifiedRefutation}
 use Rattle.diagnose_cli.specs.ProofText.{IsCheckedText, proof_head}
 use Rattle.endings.specs.Texts.{limit_of, run}
+use Rattle.replay.specs.declared.TheConstants.{MOST_FAULTS}
 
 -- a run that the network can perform is the yes of `trace`; one that gets stuck is rejected
 abbrev pub kind_of_traced : Traced → Kind
@@ -159,7 +160,7 @@ TellsBelow net alarms n (suc k) book reply = TellsRefutation net alarms n (Some 
 abbrev pub TellsProof : Net → AlarmLog → ℕ → List BookEntry → Found → (Kind × List ℕ) → Type 0
 TellsProof net alarms n book (Explained best) reply = TellsBelow net alarms n best.faults book reply
 TellsProof net alarms n book NotExplained reply = TellsRefutation net alarms n None book reply
-TellsProof net alarms n book (ManyFaults best) reply = TellsRefutation net alarms n (Some 255) book reply
+TellsProof net alarms n book (ManyFaults best) reply = TellsRefutation net alarms n (Some MOST_FAULTS) book reply
 TellsProof net alarms n book (NotDecided lo best) reply = reply ≡ reply_of_found net n (NotDecided lo best)
 
 -- the reply tells what refutes the bound below what is found

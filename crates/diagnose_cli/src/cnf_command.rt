@@ -12,9 +12,8 @@ use des_base::{Memory, read_number};
 use endings::{Kind, Reply};
 use inquiries::{Case, FormulaWithin};
 use proof_text::{Cnf, print_cnf};
+use replay::MOST_FAULTS;
 use std::alloc::Global;
-
-const BOUND_LIMIT: u64 = 255;
 
 impl Replying for FormulaWithin {
     ghost question = { cnf_question };
@@ -50,7 +49,7 @@ fn bound_of(text: &str) -> Option<Option<u8>>
     if text == "any" {
         return Some(None);
     }
-    let bound = read_number(text.as_bytes(), BOUND_LIMIT)?;
+    let bound = read_number(text.as_bytes(), u64::from(MOST_FAULTS))?;
     Some(Some(bound as u8))
 }
 

@@ -2,9 +2,10 @@
 ghost use Rattle.std.specs.Prelude.{◌≡◌, ◌≤◌, IfSome};
 ghost use Rattle.des_base.specs.Numbers.{number_up_to};
 ghost use Rattle.gen_plant.specs.Plant.{most_units};
-ghost use Rattle.diagnose_cli.specs.Words.{limits_of, most_number, most_steps, units_of};
+ghost use Rattle.des_base.specs.declared.TheConstants.{MOST_STEPS};
+ghost use Rattle.diagnose_cli.specs.Words.{limits_of, most_number, units_of};
 
-use des_base::read_number;
+use des_base::{MOST_STEPS, read_number};
 
 /// What is asked for: a run of at most this many parallel steps, found by a search that may learn at most BUDGET clauses.
 #[derive(Clone, Copy)]
@@ -13,14 +14,12 @@ pub struct Limits {
     pub budget: u64,
 }
 
-const STEP_LIMIT: u64 = 1000;
-
 const UNIT_LIMIT: u64 = 900;
 
 /// How many steps and which budget two words ask for.
 pub fn limits_of(steps: &str, budget: &str) -> Option<Limits>
     ensures spelled { result ≡ limits_of steps.now budget.now }
-    ensures within { IfSome result (λ limits. limits.steps ≤ most_steps) }
+    ensures within { IfSome result (λ limits. limits.steps ≤ MOST_STEPS) }
 {
     let steps = steps_of(steps)?;
     let budget = number_of(budget)?;
@@ -29,10 +28,10 @@ pub fn limits_of(steps: &str, budget: &str) -> Option<Limits>
 
 /// The steps that a word sets.
 pub fn steps_of(text: &str) -> Option<u32>
-    ensures spelled { result ≡ number_up_to most_steps text.now }
-    ensures within { IfSome result (λ steps. steps ≤ most_steps) }
+    ensures spelled { result ≡ number_up_to MOST_STEPS text.now }
+    ensures within { IfSome result (λ steps. steps ≤ MOST_STEPS) }
 {
-    let steps = read_number(text.as_bytes(), STEP_LIMIT)?;
+    let steps = read_number(text.as_bytes(), u64::from(MOST_STEPS))?;
     Some(steps as u32)
 }
 

@@ -4,7 +4,7 @@ ghost use Rattle.des_base.specs.CommandWords.{word_at};
 ghost use Rattle.des_base.specs.Outside.{Rose};
 ghost use Rattle.diagnose_cli.specs.Commands.{session};
 ghost use Rattle.diagnose_cli.specs.Tasks.{AreWords, one, read_words};
-ghost use Rattle.diagnose_cli.specs.Words.{most_steps};
+ghost use Rattle.des_base.specs.declared.TheConstants.{MOST_STEPS};
 ghost use Rattle.endings.specs.Files.{loads};
 ghost use Rattle.diagnose_cli.specs.Outcomes.{outcome};
 ghost use Rattle.diagnose_cli.specs.Rows.{TraceRow, ShowRow, ReplayRow, CheckRows, AskedRow, DiagnoseRows, GenerateRows, BenchRow, SessionRow, LeftRow};
@@ -172,7 +172,7 @@ fn put_replies<C: Speaking, F: Shelf, S: Sink>(
 // The steps and the budget that five words spell.
 fn read_limits(words: &WordList) -> Option<Limits>
     ensures spelled { result ≡ read_words session words.now }
-    ensures within { IfSome result (λ limits. limits.steps ≤ most_steps) }
+    ensures within { IfSome result (λ limits. limits.steps ≤ MOST_STEPS) }
 {
     if words.len() == 5 {
         limits_of(words.word(3), words.word(4))

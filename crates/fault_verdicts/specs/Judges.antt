@@ -16,6 +16,7 @@ use Rattle.log_order.specs.Log.{Log}
 use Rattle.proof_ledger.specs.Book.{BookEntry}
 use Rattle.replay.specs.Traced.{word_of}
 use Rattle.replay.specs.declared.run.RunStep.{RunStep}
+use Rattle.replay.specs.declared.TheConstants.{MOST_FAULTS}
 
 -- What is judged: the best explanations of a log within a number of steps, beside one that is known. Each question may learn as many clauses as the budget says.
 pub record Matter : Type 0 where
@@ -76,7 +77,7 @@ matter_of net log best budget kept = record { net = net; log = log; steps = kept
 pub record IsJudgeOf {R : Type 0} (net : Net) (log : Log) (best : Best) (kept : Carried R) : Type 0 where
   pub belong : BelongTo net log kept.parts
   pub steps : kept.parts.step.steps ≤ MOST_STEPS
-  pub few : best.faults ≤ 255
+  pub few : best.faults ≤ MOST_FAULTS
   pub known : IsBestRun net log kept.parts.step.steps best.faults best.run
   pub others : AllByRecursion (IsBestRun net log kept.parts.step.steps best.faults) kept.others.items
 

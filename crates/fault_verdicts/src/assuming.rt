@@ -5,6 +5,7 @@ ghost use Rattle.fault_verdicts.specs.Judging.{AreAssumedOf, KeepsStepsAndLog, b
 ghost use Rattle.fault_verdicts.specs.Ready.{AreReadyForVerdicts, AreReadyWith};
 ghost use Rattle.least_faults.specs.Asking.{AreAssumptions};
 ghost use Rattle.sat_solve.specs.Leaving.{AddsAxioms};
+ghost use Rattle.replay.specs.declared.TheConstants.{MOST_FAULTS};
 
 use crate::literals::{in_some_step, push_event};
 use des_base::{EventId, Memory};
@@ -21,7 +22,7 @@ pub fn guards_within<R: Fn(u32) -> u64>(
     k: u32,
 ) -> Result<Vec<Lit>, Memory>
     requires ready { AreReadyForVerdicts R.pre R.post parts.old book.old.entries }
-    requires few { k ≤ 255 }
+    requires few { k ≤ MOST_FAULTS }
     ensures ready { (made : List (ℕ × ℕ)) → AreReadyWith R.pre R.post parts.old book.old.entries made → AreReadyWith R.pre R.post parts.new book.new.entries made }
     ensures goes_on { KeepsStepsAndLog 0 parts.old parts.new }
     ensures axioms { AddsAxioms book.old.entries book.new.entries }
@@ -44,7 +45,7 @@ pub fn assume_none<R: Fn(u32) -> u64>(
     event: EventId,
 ) -> Result<Vec<Lit>, Memory>
     requires ready { AreReadyForVerdicts R.pre R.post parts.old book.old.entries }
-    requires few { k ≤ 255 }
+    requires few { k ≤ MOST_FAULTS }
     requires known { event < length parts.old.step.net.events }
     ensures ready { AreReadyForVerdicts R.pre R.post parts.new book.new.entries }
     ensures goes_on { KeepsStepsAndLog 0 parts.old parts.new }
@@ -65,7 +66,7 @@ pub fn assume_some<R: Fn(u32) -> u64>(
     event: EventId,
 ) -> Result<Vec<Lit>, Memory>
     requires ready { AreReadyForVerdicts R.pre R.post parts.old book.old.entries }
-    requires few { k ≤ 255 }
+    requires few { k ≤ MOST_FAULTS }
     requires known { event < length parts.old.step.net.events }
     requires fault { is_fault parts.old.step.net event ≡ true }
     requires room { parts.old.vars ≤ 1000000000 }

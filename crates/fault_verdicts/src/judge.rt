@@ -7,6 +7,7 @@ ghost use Rattle.fault_verdicts.specs.Judges.{IsEventJudged, IsLeftUnjudged, Kee
 ghost use Rattle.fault_verdicts.specs.Ready.{AreReadyForVerdicts};
 ghost use Rattle.least_faults.specs.Growing.{HasGrownWithin};
 ghost use Rattle.least_faults.specs.Parts.{BelongTo};
+ghost use Rattle.replay.specs.declared.TheConstants.{MOST_FAULTS};
 
 use crate::counted::advise;
 use crate::kept::{About, Carried};
@@ -53,7 +54,7 @@ impl<'a, R: Fn(u32) -> u64> Judge<'a, R> {
     ) -> Judge<'a, R>
         requires belong { BelongTo net.now log.now parts }
         requires steps { parts.step.steps ≤ MOST_STEPS }
-        requires few { best.now.faults ≤ 255 }
+        requires few { best.now.faults ≤ MOST_FAULTS }
         requires known { IsBestRun net.now log.now parts.step.steps best.now.faults best.now.run }
         ensures { result ≡ record { matter = record { net = net.now; log = log.now; steps = parts.step.steps; best = best.now; budget = budget }; parts = parts; book = book.entries } }
     {

@@ -9,6 +9,7 @@ ghost use Rattle.sat_solve.specs.Leaving.{IsSearching, PutsNoFinal, AddsAxioms};
 ghost use Rattle.least_faults.specs.Growing.{HasGrownWithin};
 ghost use Rattle.least_faults.specs.Parts.{BelongTo};
 ghost use Rattle.replay.specs.Traced.{event_of, word_of};
+ghost use Rattle.replay.specs.declared.TheConstants.{MOST_FAULTS};
 
 use crate::assuming::{assume_none, assume_some};
 use answers::Verdict;
@@ -44,7 +45,7 @@ pub fn verdict<R: Fn(u32) -> u64>(
     requires belong { BelongTo net.now log.now parts.old }
     requires steps { parts.old.step.steps ≤ MOST_STEPS }
     requires ready { AreReadyForVerdicts R.pre R.post parts.old book.old.entries }
-    requires few { k ≤ 255 }
+    requires few { k ≤ MOST_FAULTS }
     requires best { IsBestRun net.now log.now parts.old.step.steps k first.now }
     requires known { event < length net.now.events }
     requires fault { is_fault net.now event ≡ true }
@@ -77,7 +78,7 @@ fn ask<R: Fn(u32) -> u64>(
     requires belong { BelongTo question.net.now question.log.now parts.old }
     requires steps { parts.old.step.steps ≤ MOST_STEPS }
     requires ready { AreReadyForVerdicts R.pre R.post parts.old book.old.entries }
-    requires few { k ≤ 255 }
+    requires few { k ≤ MOST_FAULTS }
     requires best { IsBestRun question.net.now question.log.now parts.old.step.steps k first.now }
     requires known { event < length question.net.now.events }
     requires fault { is_fault question.net.now event ≡ true }
@@ -120,7 +121,7 @@ fn solve<R: Fn(u32) -> u64>(
 ) -> Result<Answer, Memory>
     requires belong { BelongTo question.net.now question.log.now parts.old }
     requires ready { AreReadyForVerdicts R.pre R.post parts.old book.old.entries }
-    requires few { k ≤ 255 }
+    requires few { k ≤ MOST_FAULTS }
     requires known { event < length question.net.now.events }
     requires fault { is_fault question.net.now event ≡ true }
     requires room { parts.old.vars ≤ 1000000000 }
@@ -147,7 +148,7 @@ fn assume<R: Fn(u32) -> u64>(
     event: EventId,
 ) -> Result<Vec<Lit>, Memory>
     requires ready { AreReadyForVerdicts R.pre R.post parts.old book.old.entries }
-    requires few { k ≤ 255 }
+    requires few { k ≤ MOST_FAULTS }
     requires known { event < length parts.old.step.net.events }
     requires fault { is_fault parts.old.step.net event ≡ true }
     requires room { parts.old.vars ≤ 1000000000 }

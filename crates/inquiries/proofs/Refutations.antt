@@ -51,6 +51,7 @@ use Rattle.inquiries.proofs.LastFinals.{has_final, last_found}
 use Rattle.std.proofs.Math.ListN.{get_or-append}
 use Rattle.proof_ledger.proofs.AxiomLists.{axioms_added, clauses_added}
 use Rattle.sat_solve.specs.Leaving.{HasLastFinal}
+use Rattle.replay.specs.declared.TheConstants.{MOST_FAULTS}
 
 -- ---- what reads as the same literals is the same
 
@@ -404,7 +405,7 @@ evidence_for net log n parts budget begun old book found steps is_first is_old a
     by : (f : Found) → IsAnswered (meanings_of_parts parts) (question_built net log parts.step.steps 0) net log parts.step.steps budget (map axiomatic (question_axioms net log parts.step.steps 0)) book f → HasEvidenceFor net log parts book f
     by (Explained best) a = (a.found.few, λ k is. evidence_within net log parts a.left.since book (Some k) a.left.whole (a.found.evidence k is))
     by Absent a = evidence_within net log parts a.left.since book None a.left.whole a.found.evidence
-    by (Many best) a = evidence_within net log parts a.left.since book (Some 255) a.left.whole a.found.evidence
+    by (Many best) a = evidence_within net log parts a.left.since book (Some MOST_FAULTS) a.left.whole a.found.evidence
     by (Undecided lo best) a = tt
 
 pub ok_both : {A B : Type 0} (r : Result A B) (P Q S : A → Type 0) → ((a : A) → P a → Q a → S a) → IfOk r P → IfOk r Q → IfOk r S

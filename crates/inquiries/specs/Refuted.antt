@@ -22,6 +22,7 @@ use Rattle.inquiries.specs.declared.refutation.Refuted.{Refuted}
 use Rattle.inquiries.specs.declared.refutation.Refuted.TheVariants.{Within, Nothing, Undecided as NotRefuted}
 use Rattle.inquiries.specs.Diagnosed.{IsDiagnosed}
 use Rattle.inquiries.specs.Formula.{counted_bound, question_assumed, question_formula, question_within}
+use Rattle.replay.specs.declared.TheConstants.{MOST_FAULTS}
 
 -- The steps are the refutation that the book holds up to a final clause, of negations of what the question assumes within the bound. With this the axioms
 -- before that clause pose the question within the bound. They are, in their order, those of the formula of the question within the bound, and of that formula the steps are verified. Both can be printed.
@@ -54,7 +55,7 @@ IsRefutedBelow net log n (suc k) book answer = IsRefutedWithin net log n (Some k
 abbrev pub IsRefutedFor : Net → Log → ℕ → List BookEntry → Found → Refuted → Type 0
 IsRefutedFor net log n book (Explained best) answer = IsRefutedBelow net log n best.faults book answer
 IsRefutedFor net log n book Absent answer = IsRefutedWithin net log n None book answer
-IsRefutedFor net log n book (Many best) answer = IsRefutedWithin net log n (Some 255) book answer
+IsRefutedFor net log n book (Many best) answer = IsRefutedWithin net log n (Some MOST_FAULTS) book answer
 IsRefutedFor net log n book (Undecided lo best) answer = answer ≡ NotRefuted (Undecided lo best)
 
 -- the answer refutes the bound below what is found
@@ -87,7 +88,7 @@ pub record HasEvidence {R : Type 0} (net : Net) (log : Log) (parts : Parts R) (b
 
 -- for the bound that what was found refutes: one less than the least number, none if nothing explains, and 255 if more are needed
 abbrev pub HasEvidenceFor : {R : Type 0} → Net → Log → Parts R → List BookEntry → Found → Type 0
-HasEvidenceFor net log parts book (Explained best) = (best.faults ≤ 255) × ((k : ℕ) → best.faults ≡ suc k → HasEvidence net log parts book (Some k))
+HasEvidenceFor net log parts book (Explained best) = (best.faults ≤ MOST_FAULTS) × ((k : ℕ) → best.faults ≡ suc k → HasEvidence net log parts book (Some k))
 HasEvidenceFor net log parts book Absent = HasEvidence net log parts book None
-HasEvidenceFor net log parts book (Many best) = HasEvidence net log parts book (Some 255)
+HasEvidenceFor net log parts book (Many best) = HasEvidence net log parts book (Some MOST_FAULTS)
 HasEvidenceFor net log parts book (Undecided lo best) = ⊤

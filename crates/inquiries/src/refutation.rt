@@ -3,6 +3,7 @@ ghost use Rattle.std.specs.Prelude.{◌≡◌, ◌≤◌, ℕ, suc, Some, IfOk};
 ghost use Rattle.inquiries.specs.Begun.{ArePartsOf, HasQuestion, MayLearn};
 ghost use Rattle.least_faults.specs.Parts.{IsWithinLimits};
 ghost use Rattle.inquiries.specs.Refuted.{HasEvidence, HasEvidenceFor, IsRefutedBelow, IsRefutedFor, IsRefutedWithin, IsRefuting};
+ghost use Rattle.replay.specs.declared.TheConstants.{MOST_FAULTS};
 
 use crate::least::find_least;
 use crate::question::{Case, Inquiry};
@@ -11,6 +12,7 @@ use des_base::Memory;
 use least_faults::{Found, Parts};
 use proof_ledger::Ledger;
 use proof_text::Proof;
+use replay::MOST_FAULTS;
 use std::alloc::Global;
 
 /// Asks for the proof that fewer faults than the least number won't do, which is searched for as by `LeastFaults`.
@@ -68,7 +70,7 @@ fn refuted_for<R: Fn(u32) -> u64>(
     match found {
         Found::Explained(best) => below(alloc, case, parts, book, best.faults),
         Found::Absent => within(alloc, case, parts, book, None),
-        Found::Many(_) => within(alloc, case, parts, book, Some(255)),
+        Found::Many(_) => within(alloc, case, parts, book, Some(MOST_FAULTS)),
         Found::Undecided { lo, best } => Ok(Refuted::Undecided(Found::Undecided { lo, best })),
     }
 }
@@ -83,7 +85,7 @@ fn below<R: Fn(u32) -> u64>(
 ) -> Result<Refuted, Memory>
     requires parts { ArePartsOf R.pre R.post case.now.net case.now.log parts.now book.now.entries }
     requires evidence { (k : ℕ) → faults ≡ suc k → HasEvidence case.now.net case.now.log parts.now book.now.entries (Some k) }
-    requires few { faults ≤ 255 }
+    requires few { faults ≤ MOST_FAULTS }
     ensures { IfOk result (IsRefutedBelow case.now.net case.now.log parts.now.step.steps faults book.now.entries) }
 {
     if faults == 0 {

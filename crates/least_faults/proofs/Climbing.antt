@@ -40,6 +40,7 @@ use Rattle.step_encode.specs.Coded.{CodedSteps}
 use Rattle.sat_solve.proofs.Entries.{learnt_no_final, no_final_in, counted_both}
 use Rattle.sat_solve.specs.Leaving.{IsSearching, EachFinal, PutsNoFinal}
 use Rattle.sat_solve.proofs.Leaving.{each_both, each_none, no_more, searching_none, searching_further, leaves_searched, finals_before}
+use Rattle.replay.specs.declared.TheConstants.{MOST_FAULTS}
 
 pub as_explained : (net : Net) (log : Log) (n : ℕ) (best : Best) → IsExplanation net log n best → IsExplained net log n best.faults
 as_explained net log n best given = record { word = _; order = _; explains = given.explains; faults = given.faults }
@@ -147,7 +148,7 @@ module _ (steps : CodedSteps) (code : CodedLog) (counter : CounterState) (vars :
       posed = poses steps code counter vars (axioms_of book) bound assumed parts assumptions log network valid same
 
   -- with evidence below k, an explanation within k is least
-  pub least_found : (k : ℕ) (best : Best) → k ≤ 255 → ((j : ℕ) → k ≡ suc j → IsRefutedAt code counter steps.net log steps.steps j begun since) → NeedsFaults steps.net log steps.steps k → IsExplanation steps.net log steps.steps best → best.faults ≤ k →
+  pub least_found : (k : ℕ) (best : Best) → k ≤ MOST_FAULTS → ((j : ℕ) → k ≡ suc j → IsRefutedAt code counter steps.net log steps.steps j begun since) → NeedsFaults steps.net log steps.steps k → IsExplanation steps.net log steps.steps best → best.faults ≤ k →
       IsLeastFound (whole_meanings steps code counter) begun since steps.net log steps.steps best
   least_found k best small below needs given within =
       let more = at_least steps.net log steps.steps k best needs given in
@@ -164,7 +165,7 @@ module _ (steps : CodedSteps) (code : CodedLog) (counter : CounterState) (vars :
     given = given;
     above = (let more = at_least steps.net log steps.steps 256 best needs given in omega (arith, more));
     many = record { faults = best.faults; explained = as_explained steps.net log steps.steps best given; above = needs };
-    evidence = (let found = below 255 refl in evidence (Some 255) found.assumed found.assumptions found.refuted);
+    evidence = (let found = below 255 refl in evidence (Some MOST_FAULTS) found.assumed found.assumptions found.refuted);
   }
 
   pub undecided_found : (k budget : ℕ) (best : Best) → IsValidBook book → count_by is_learnt since ≡ budget → EachFinal (NegatesBelow code counter k) since →
@@ -248,7 +249,7 @@ module _ (steps : CodedSteps) (code : CodedLog) (counter : CounterState) (vars :
   nothing_left : (count left : ℕ) → count + left ≡ budget → left ≡ 0 → count ≡ budget
   nothing_left count left paid none = omega (arith, paid, none)
 
-  pub answers_least : (k left : ℕ) (best : Best) → k ≤ 255 → HasComeToBy code counter begun net log steps.steps k first book budget left → IsExplanation net log steps.steps best → best.faults ≤ k →
+  pub answers_least : (k left : ℕ) (best : Best) → k ≤ MOST_FAULTS → HasComeToBy code counter begun net log steps.steps k first book budget left → IsExplanation net log steps.steps best → best.faults ≤ k →
       HasFound (whole_meanings steps code counter) begun net log steps.steps budget first book (Explained best)
   answers_least k left best small come given within =
       let here = back k left come in
@@ -262,7 +263,7 @@ module _ (steps : CodedSteps) (code : CodedLog) (counter : CounterState) (vars :
       with_found left here.searching (Many best) (finals_below 256 here.searching.since here.finals) here.few tt
       (many_found steps code counter vars log first book here.searching.since here.searching.whole parts own valid same begun at_first best here.below here.needs (given_back best given))
 
-  pub answers_undecided : (k : ℕ) (best : Best) → k ≤ 255 → IsValidBook book → HasComeToBy code counter begun net log steps.steps k first book budget 0 → IsStopped code counter (Some k) book 0 → IsExplanation net log steps.steps best → k < best.faults →
+  pub answers_undecided : (k : ℕ) (best : Best) → k ≤ MOST_FAULTS → IsValidBook book → HasComeToBy code counter begun net log steps.steps k first book budget 0 → IsStopped code counter (Some k) book 0 → IsExplanation net log steps.steps best → k < best.faults →
       HasFound (whole_meanings steps code counter) begun net log steps.steps budget first book (Undecided k (Some best))
   answers_undecided k best small whole come stopped given more =
       let here = back k 0 come in

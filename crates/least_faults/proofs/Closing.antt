@@ -33,6 +33,7 @@ use Rattle.proof_ledger.proofs.AxiomLists.{marked_axioms, marked_clauses}
 use Rattle.prop_core.proofs.Literals.{wider}
 use Rattle.sat_solve.proofs.Entries.{learnt_no_axioms, learnt_no_final, counted_both}
 use Rattle.sat_solve.proofs.Leaving.{final_later, last_later, leaves_both, leaves_later, leaves_open, leaves_closed}
+use Rattle.replay.specs.declared.TheConstants.{MOST_FAULTS}
 
 -- the axioms are the same where learnt entries came before
 same_front : (first : List Clause) (front entries : List BookEntry) → list_all is_learnt front ≡ true → first ++ axioms_of entries ≡ first ++ axioms_of (front ++ entries)
@@ -70,7 +71,7 @@ is_found_later names first front since net log n budget left (Explained best) al
     record { given = is.given; few = is.few; least = is.least; evidence = λ b faults. evidence_later names first front since net log n (Some b) all_learnt known (is.evidence b faults) }
 is_found_later names first front since net log n budget left Absent all_learnt known paid is = record { absent = is.absent; evidence = evidence_later names first front since net log n None all_learnt known is.evidence }
 is_found_later names first front since net log n budget left (Many best) all_learnt known paid is =
-    record { given = is.given; above = is.above; many = is.many; evidence = evidence_later names first front since net log n (Some 255) all_learnt known is.evidence }
+    record { given = is.given; above = is.above; many = is.many; evidence = evidence_later names first front since net log n (Some MOST_FAULTS) all_learnt known is.evidence }
 is_found_later names first front since net log n budget left (Undecided lo best) all_learnt known paid is = record {
   spent = counted_both is_learnt front since ∙ (let rest = is.spent in omega (arith, rest, paid));
   above = is.above;

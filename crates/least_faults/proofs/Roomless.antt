@@ -20,6 +20,7 @@ use Rattle.prop_core.specs.VariableNames.{Meaning}
 use Rattle.prop_core.specs.declared.lit.Lit.{Lit}
 use Rattle.run_decode.specs.QuestionAxioms.{BuiltQuestion, added_built, column_built, roomless}
 use Rattle.run_decode.specs.WholeNaming.{false_input}
+use Rattle.replay.specs.declared.TheConstants.{MOST_FAULTS}
 
 -- ---- columns, additions and room
 
@@ -75,7 +76,7 @@ module _ (names : List (ℕ × Meaning)) (first : BuiltQuestion) (since : List B
   found_roomless : (budget : ℕ) (answer : Found) → IsFound names first since net log n budget answer → IsFound names (roomless first) since net log n budget answer
   found_roomless budget (Explained best) is = record { given = is.given; few = is.few; least = is.least; evidence = λ b some. evidence_roomless (Some b) (is.evidence b some) }
   found_roomless budget Absent is = record { absent = is.absent; evidence = evidence_roomless None is.evidence }
-  found_roomless budget (Many best) is = record { given = is.given; above = is.above; many = is.many; evidence = evidence_roomless (Some 255) is.evidence }
+  found_roomless budget (Many best) is = record { given = is.given; above = is.above; many = is.many; evidence = evidence_roomless (Some MOST_FAULTS) is.evidence }
   found_roomless budget (Undecided lo best) is = record {
     spent = is.spent;
     above = is.above;

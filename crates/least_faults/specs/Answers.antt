@@ -21,6 +21,7 @@ use Rattle.replay.specs.declared.run.RunStep.{RunStep}
 use Rattle.run_decode.specs.Drawn.{assumption_literals}
 use Rattle.run_decode.specs.QuestionAxioms.{BuiltQuestion}
 use Rattle.sat_solve.specs.Leaving.{HasFinal, LeavesOpen, LeavesClosed}
+use Rattle.replay.specs.declared.TheConstants.{MOST_FAULTS}
 
 -- the entry of a run is a fault: a fault event, or a false alarm
 abbrev pub is_fault_entry : Net → RunStep → Bool
@@ -31,7 +32,7 @@ is_fault_entry net entry = step_faults net entry || not (is_real entry)
 -- no explanation has fewer faults, which the book shows
 pub record IsLeastFound (meanings : List (ℕ × Meaning)) (first : BuiltQuestion) (since : List BookEntry) (net : Net) (log : Log) (n : ℕ) (best : Best) : Type 0 where
   pub given : IsExplanation net log n best
-  pub few : best.faults ≤ 255
+  pub few : best.faults ≤ MOST_FAULTS
   pub least : IsLeast net log n best.faults
   pub evidence : (b : ℕ) → best.faults ≡ suc b → IsEvidence meanings first since net log n (Some b)
 
@@ -43,9 +44,9 @@ pub record IsAbsentFound (meanings : List (ℕ × Meaning)) (first : BuiltQuesti
 -- all that explains the log has more than 255 faults
 pub record IsManyFound (meanings : List (ℕ × Meaning)) (first : BuiltQuestion) (since : List BookEntry) (net : Net) (log : Log) (n : ℕ) (best : Best) : Type 0 where
   pub given : IsExplanation net log n best
-  pub above : 255 < best.faults
+  pub above : MOST_FAULTS < best.faults
   pub many : IsMany net log n
-  pub evidence : IsEvidence meanings first since net log n (Some 255)
+  pub evidence : IsEvidence meanings first since net log n (Some MOST_FAULTS)
 
 -- The budget was spent on learnt entries. All explanations have at least lo faults, and lo is one more than the greatest bound that a final entry refutes, or 0; an explanation that is known has more. Where none is known, nothing but learnt entries was put.
 pub record IsUndecidedFound (meanings : List (ℕ × Meaning)) (first : BuiltQuestion) (since : List BookEntry) (net : Net) (log : Log) (n budget lo : ℕ) (best : Option Best) : Type 0 where

@@ -29,6 +29,7 @@ use Rattle.run_decode.specs.WholeNaming.{AreClausesOf, whole_meanings}
 use Rattle.sat_solve.specs.Searching.{HasAxiomVars, HasPut, IsAnswer, IsSearched}
 use Rattle.sat_solve.specs.declared.answer.Answer.{Answer}
 use Rattle.step_encode.specs.Coded.{CodedSteps}
+use Rattle.replay.specs.declared.TheConstants.{MOST_FAULTS}
 
 -- ---- what is assumed
 
@@ -57,7 +58,7 @@ pub record AreAssumed {R : Type 0} (before : CounterState) (parts : Parts R) (bo
 -- at most k faults can be asked for: there is something to count, and the bound is one of the columns that a counter may have
 pub record IsBoundable (counter : CounterState) (k : ℕ) : Type 0 where
   pub some : 0 < length counter.inputs
-  pub few : k ≤ 255
+  pub few : k ≤ MOST_FAULTS
 
 -- Together with the axioms they ask which explanations there are within the bound, whatever the names of the log's alarms.
 abbrev pub Pose : CodedSteps → CodedLog → CounterState → List Clause → Option ℕ → List Lit → Type 0

@@ -5,6 +5,7 @@ ghost use Rattle.least_faults.specs.Asking.{IsBoundLiteral};
 ghost use Rattle.least_faults.specs.Growing.{KeepsQuestion, StandsStill};
 ghost use Rattle.least_faults.specs.Parts.{AreReady, AreReadyBeside};
 ghost use Rattle.sat_solve.specs.Leaving.{AddsAxioms};
+ghost use Rattle.replay.specs.declared.TheConstants.{MOST_FAULTS};
 
 use crate::parts::Parts;
 use des_base::Memory;
@@ -24,7 +25,7 @@ pub fn bound<R: Fn(u32) -> u64>(
 ) -> Result<Lit, Memory>
     requires ready { AreReadyBeside R.pre R.post parts.old book.old.entries }
     requires some { 0 < length parts.old.counter.inputs }
-    requires few { k ≤ 255 }
+    requires few { k ≤ MOST_FAULTS }
     ensures ready { AreReadyBeside R.pre R.post parts.new book.new.entries }
     ensures alone { AreReady R.pre R.post parts.old book.old.entries → AreReady R.pre R.post parts.new book.new.entries }
     ensures kept { KeepsQuestion parts.old parts.new book.old.entries book.new.entries }

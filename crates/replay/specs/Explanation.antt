@@ -7,6 +7,7 @@ use Rattle.des_net.specs.Network.{Net, label_of}
 use Rattle.des_net.specs.Run.{IsRun, fault_count}
 use Rattle.des_net.specs.Width.{Fits}
 use Rattle.log_order.specs.Log.{Log, ListsOnce, Keeps, labels_of, is_doubtful}
+use Rattle.replay.specs.declared.TheConstants.{MOST_FAULTS}
 
 -- the events of a word that can be seen, in order
 abbrev pub observables : Net → List ℕ → List ℕ
@@ -111,4 +112,4 @@ AbsentExcludes = (net : Net) (log : Log) (n : ℕ) → IsAbsent net log n → Ex
 
 -- where there are many faults, a least number is above 255
 abbrev pub ManyIsAbove : Type 0
-ManyIsAbove = (net : Net) (log : Log) (n k : ℕ) → IsLeast net log n k → IsMany net log n → 255 < k
+ManyIsAbove = (net : Net) (log : Log) (n k : ℕ) → IsLeast net log n k → IsMany net log n → MOST_FAULTS < k

@@ -11,6 +11,7 @@ use Rattle.replay.specs.declared.run.RunStep.TheVariants.{Happens, Dropped}
 use Rattle.replay.specs.declared.run_text.RunFault.{RunFault}
 use Rattle.replay.specs.declared.run_text.RunRefusal.{RunRefusal}
 use Rattle.replay.specs.declared.run_text.RunRefusal.TheVariants.{Fault, Memory}
+use Rattle.replay.specs.declared.TheConstants.{MOST_RUN_STEPS}
 
 -- the first word of a printed reply that has a run
 abbrev pub is_reply_word : List ℕ → Bool
@@ -30,7 +31,7 @@ after_reply_line (line ∷ lines) = if is_reply_line (tokens_of line.text) then 
 abbrev pub stated_length : List (List ℕ) → Option ℕ
 stated_length [] = None
 stated_length (word ∷ []) = None
-stated_length (word ∷ count ∷ []) = if bytes_eq word (codes "run") then number_up_to 4000000 count else None
+stated_length (word ∷ count ∷ []) = if bytes_eq word (codes "run") then number_up_to MOST_RUN_STEPS count else None
 stated_length (word ∷ count ∷ more ∷ words) = None
 
 -- with this word the line of a false alarm begins; it is no name

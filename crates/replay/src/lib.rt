@@ -35,3 +35,9 @@ pub use replaying::{Replayed, replay};
 pub use run::{Run, RunStep};
 pub use run_text::{RunFault, RunRefusal, read_run};
 pub use tracing::{Traced, trace};
+
+/// The most steps that a run may have as it is written down.
+pub const MOST_RUN_STEPS: u32 = 4_000_000;
+
+/// The most faults that are counted: where all that explains a log has more, there are many.
+pub const MOST_FAULTS: u32 = 255;

@@ -6,6 +6,7 @@ ghost use Rattle.log_order.specs.Adding.{names_of};
 ghost use Rattle.replay.specs.Traced.{event_of, word_of};
 ghost use Rattle.replay.specs.Matching.{alarms_on, suits, suits_name, suits_alone, with_step, bad_alarm};
 ghost use Rattle.replay.specs.Placed.{none_placed};
+ghost use Rattle.replay.specs.declared.TheConstants.{MOST_RUN_STEPS};
 
 use crate::placing::Placing;
 use crate::run::RunStep;
@@ -81,7 +82,7 @@ pub fn place_alarms(
     steps: &[RunStep],
 ) -> Result<Option<u32>, Memory>
     requires known { All (λ e. e < length net.now.events) (word_of steps.now) }
-    requires few { length steps.now ≤ 4000000 }
+    requires few { length steps.now ≤ MOST_RUN_STEPS }
     requires none { placing.old ≡ none_placed (length log.now.alarms) }
     ensures bad { IfOk result (λ bad. bad ≡ bad_alarm net.now log.now steps.now) }
     ensures placed { IfOk result (λ bad. bad ≡ None → placing.new ≡ record placing.old { order = alarms_on log.now steps.now }) }

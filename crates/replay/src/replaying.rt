@@ -4,6 +4,7 @@ ghost use Rattle.des_net.specs.Run.{IsRun};
 ghost use Rattle.replay.specs.Traced.{word_of};
 ghost use Rattle.replay.specs.Matching.{is_real};
 ghost use Rattle.replay.specs.Replayed.{IsReplayed, IsAccepted, HasAlarms, NamesKnown};
+ghost use Rattle.replay.specs.declared.TheConstants.{MOST_RUN_STEPS};
 
 use crate::matching::place_alarms;
 use crate::placing::Placing;
@@ -67,9 +68,9 @@ pub fn replay(
 
 // How many steps are false alarms.
 fn count_dropped(steps: &[RunStep]) -> u32
-    requires { length steps.now ≤ 4000000 }
+    requires { length steps.now ≤ MOST_RUN_STEPS }
     ensures count { result ≡ count_by (λ step. not (is_real step)) steps.now }
-    ensures few { result ≤ 4000000 }
+    ensures few { result ≤ MOST_RUN_STEPS }
 {
     let mut dropped = 0;
     for step in steps {
@@ -88,7 +89,7 @@ fn wrong_alarms(
     steps: &[RunStep],
 ) -> Result<Option<Replayed>, Memory>
     requires known { All (λ e. e < length net.now.events) (word_of steps.now) }
-    requires few { length steps.now ≤ 4000000 }
+    requires few { length steps.now ≤ MOST_RUN_STEPS }
     ensures known { IfOk result (λ wrong. IfSome wrong (NamesKnown (length log.now.alarms))) }
     ensures wrong { IfOk result (λ wrong. MatchOption wrong (HasAlarms net.now log.now steps.now) (λ replayed. (n : ℕ) → IsRun net.now (word_of steps.now) → IsReplayed net.now log.now steps.now n replayed)) }
 {

@@ -2,12 +2,11 @@
 ghost use Rattle.std.specs.Prelude.{◌≡◌, ◌<◌, ◌≤◌, [], ◌∷◌, ◌++◌, not, length, OnOk, OnErr};
 ghost use Rattle.replay.specs.Traced.{event_of};
 ghost use Rattle.replay.specs.Matching.{is_real};
+ghost use Rattle.replay.specs.declared.TheConstants.{MOST_RUN_STEPS};
 
 use des_base::{EventId, Memory, Name};
 use std::alloc::Global;
 use std::marker::Model;
-
-const STEPS: usize = 4_000_000;
 
 /// A step of a run as it was written down.
 #[derive(Drop)]
@@ -40,7 +39,7 @@ impl RunStep {
     }
 }
 
-/// A run as it was written down: at most 4,000,000 steps.
+/// A run as it was written down: at most [`MOST_RUN_STEPS`] steps.
 #[derive(Drop)]
 pub struct Run {
     steps: Vec<RunStep>,
@@ -48,13 +47,14 @@ pub struct Run {
 
 impl Model for Run {
     ghost use Rattle.std.specs.Prelude.{List, ◌≤◌, length};
+    ghost use Rattle.replay.specs.declared.TheConstants.{MOST_RUN_STEPS};
     ghost use Rattle.replay.specs.declared.run.RunStep.{RunStep};
 
     ghost Value = { List RunStep };
 
     ghost view = { λ a. a.steps.items };
 
-    ghost invariant = { λ a. length a.steps.items ≤ 4000000 };
+    ghost invariant = { λ a. length a.steps.items ≤ MOST_RUN_STEPS };
 }
 
 impl Run {
@@ -69,7 +69,7 @@ impl Run {
 
     /// Appends a step.
     pub fn push(&mut self, step: RunStep) -> Result<(), Memory>
-        requires { length self.old < STEPS }
+        requires { length self.old < MOST_RUN_STEPS }
         ensures ok { OnOk result (self.new ≡ self.old ++ step ∷ []) }
         ensures err { OnErr result (self.new ≡ self.old) }
     {
@@ -80,7 +80,7 @@ impl Run {
     /// The steps, in order.
     pub fn steps(&self) -> &[RunStep]
         ensures steps { result.now ≡ self.now }
-        ensures few { length self.now ≤ STEPS }
+        ensures few { length self.now ≤ MOST_RUN_STEPS }
     {
         self.steps.as_slice()
     }

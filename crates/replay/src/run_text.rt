@@ -7,7 +7,9 @@ ghost use Rattle.des_base.specs.CountedLines.{numbered, tokens_of, last_line};
 ghost use Rattle.replay.specs.Traced.{event_of, word_of};
 ghost use Rattle.replay.specs.RunText.{is_reply_word, is_reply_line, is_false_alarm_mark, after_reply_line, stated_length, step_code, step_words, step_of, steps_of, run_fault_at, fault_of_steps, first_run_fault, run_of, TellsFault};
 ghost use Rattle.replay.specs.declared.run_text.RunRefusal.TheVariants.{Memory as NoMemory};
+ghost use Rattle.replay.specs.declared.TheConstants.{MOST_RUN_STEPS};
 
+use crate::MOST_RUN_STEPS;
 use crate::run::{Run, RunStep};
 use des_base::{EventId, Line, Lines, Memory, Name, NameFault, is_name, last_line, read_number};
 use des_net::Network;
@@ -41,8 +43,6 @@ impl From<Memory> for RunRefusal {
     }
 }
 
-const STEPS: u64 = 4_000_000;
-
 const NO_HEADER: u8 = 1;
 
 const TOO_MANY_WORDS: u8 = 2;
@@ -60,7 +60,7 @@ struct StepWords<'a> {
     alarm: Option<&'a [u8]>,
 }
 
-/// The run that the text says: a line `run T`, and then T lines `EVENT`, `EVENT ALARM` or `! ALARM`, at most 4,000,000.
+/// The run that the text says: a line `run T`, and then T lines `EVENT`, `EVENT ALARM` or `! ALARM`, at most [`MOST_RUN_STEPS`].
 ///
 /// Words stand between spaces and tabs. Blank lines and lines that begin with `#` are skipped. A printed reply that has a
 /// run is a run text as it stands: its first line is skipped. Alarm names are kept as they are, whether or not there is
@@ -117,7 +117,7 @@ fn is_reply_word(word: &[u8]) -> bool
 // How many steps the header says that there are.
 fn stated_length(header: Line<'_>) -> Option<u64>
     ensures length { result ≡ stated_length (tokens_of header.entry.text.now) }
-    ensures few { IfSome result (λ stated. stated ≤ STEPS) }
+    ensures few { IfSome result (λ stated. stated ≤ MOST_RUN_STEPS) }
 {
     let mut tokens = header.tokens();
     let word = tokens.next_token()?;
@@ -125,7 +125,7 @@ fn stated_length(header: Line<'_>) -> Option<u64>
     if tokens.next_token().is_some() || word.text != b"run".as_slice() {
         return None;
     }
-    read_number(count.text, STEPS)
+    read_number(count.text, u64::from(MOST_RUN_STEPS))
 }
 
 // The steps of the lines to come of the text, where there are as many as the header says.
@@ -137,7 +137,7 @@ fn read_steps(
     lines: &mut Lines<'_>,
 ) -> Result<Run, RunRefusal>
     requires short { length bytes.now < 2 ^ 32 }
-    requires few { stated ≤ STEPS }
+    requires few { stated ≤ MOST_RUN_STEPS }
     ensures run { IfOk result (λ run. run ≡ steps_of net.now lines.old) }
     ensures known { IfOk result (λ run. All (λ e. e < length net.now.events) (word_of run)) }
     ensures well { (number : ℕ) → OnOk result (fault_of_steps net.now (last_line bytes.now) number (Some stated) lines.old ≡ None) }

@@ -5,6 +5,7 @@ ghost use Rattle.des_net.specs.Network.{has_part};
 ghost use Rattle.des_net.specs.Width.{need};
 ghost use Rattle.std.specs.Option.{option_to_list};
 ghost use Rattle.replay.specs.Traced.{event_of, word_of};
+ghost use Rattle.replay.specs.declared.TheConstants.{MOST_RUN_STEPS};
 
 use crate::run::RunStep;
 use des_base::{EventId, Memory};
@@ -17,7 +18,7 @@ use std::alloc::Global;
 /// the next one where it touches what was touched in the present one.
 pub fn need(alloc: Global, net: &Network, steps: &[RunStep]) -> Result<u32, Memory>
     requires known { All (λ e. e < length net.now.events) (word_of steps.now) }
-    requires few { length steps.now ≤ 4000000 }
+    requires few { length steps.now ≤ MOST_RUN_STEPS }
     ensures { IfOk result (λ pieces. pieces ≡ need net.now (word_of steps.now)) }
 {
     let events = events_of(alloc, steps)?;
@@ -48,7 +49,7 @@ fn push_event(events: &mut Vec<EventId>, step: &RunStep) -> Result<(), Memory>
 // The least number of pieces that the events take.
 fn pieces_of(alloc: Global, net: &Network, events: &[EventId]) -> Result<u32, Memory>
     requires known { All (λ e. e < length net.now.events) events.now }
-    requires few { length events.now ≤ 4000000 }
+    requires few { length events.now ≤ MOST_RUN_STEPS }
     ensures { IfOk result (λ pieces. pieces ≡ need net.now events.now) }
 {
     let mut last = vec![in alloc; 0u32; net.components() as usize]?;
@@ -63,7 +64,7 @@ fn pieces_of(alloc: Global, net: &Network, events: &[EventId]) -> Result<u32, Me
 // Puts an event with these parts into the present piece, or if it can't be there into the next one, and returns which is present then.
 fn take_event(last: &mut Vec<u32>, parts: &[Part], pieces: u32) -> u32
     requires known { All (λ part. part.comp < length last.old.items) parts.now }
-    requires few { pieces ≤ 4000000 }
+    requires few { pieces ≤ MOST_RUN_STEPS }
     ensures piece { result ≡ (if list_any (λ part. slice_index last.old.items part.comp == pieces) parts.now then pieces + 1 else pieces) }
     ensures touched { (c : ℕ) → slice_index last.new.items c ≡ (if has_part parts.now c then result else slice_index last.old.items c) }
     ensures long { length last.new.items ≡ length last.old.items }

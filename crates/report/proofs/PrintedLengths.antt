@@ -15,6 +15,7 @@ use Rattle.telling.specs.Lines.{line_with_number, line_with_two_numbers}
 use Rattle.report.specs.ReadBack.{HasAlarmNames, RepliesAreShort, RepliesFit}
 use Rattle.report.specs.VerdictTexts.{RunsFit}
 use Rattle.des_base.proofs.PrintedLines.{name_text}
+use Rattle.replay.specs.declared.TheConstants.{MOST_RUN_STEPS}
 
 -- ---- numbers and names
 
@@ -90,7 +91,7 @@ replies_are_short net n (Many best) whole h = behind_line net (codes "MANY 255\n
 replies_are_short net n (Undecided lo None) whole h = omega (arith, unknown-length lo)
 replies_are_short net n (Undecided lo (Some best)) whole h = behind_line net (line_with_two_numbers (codes "UNDECIDED ") lo best.faults) best.run (omega (arith, line_with_two_numbers-length (codes "UNDECIDED ") lo best.faults)) whole.event_names.each h
 
-short_enough : (bytes steps : ℕ) → bytes ≤ 130 * steps + 209 → steps ≤ 4000000 → bytes ≤ 536870912
+short_enough : (bytes steps : ℕ) → bytes ≤ 130 * steps + 209 → steps ≤ MOST_RUN_STEPS → bytes ≤ 536870912
 short_enough bytes steps short few = omega arith
 
 pub replies_fit : RepliesFit

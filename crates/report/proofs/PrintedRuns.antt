@@ -23,6 +23,7 @@ use Rattle.report.specs.Replies.{text_of_alarm, text_of_step, text_of_run}
 use Rattle.report.specs.ReadBack.{HasAlarmNames}
 use Rattle.report.proofs.DecimalWords.{decimal_bytes, decimal_word}
 use Rattle.report.proofs.NameWords.{no_mark, name_counts, name_at, own_place}
+use Rattle.replay.specs.declared.TheConstants.{MOST_RUN_STEPS}
 
 -- a line, its end, and what follows it
 pub end_of_line : (line rest : List ℕ) → (line ++ 10 ∷ []) ++ rest ≡ line ++ 10 ∷ rest
@@ -229,21 +230,21 @@ run_line count = codes "run " ++ decimal count
 run_word : IsWord (codes "run")
 run_word = record { some = omega arith; bytes = refl }
 
-small : (count : ℕ) → count ≤ 4000000 → count < 2 ^ 64
+small : (count : ℕ) → count ≤ MOST_RUN_STEPS → count < 2 ^ 64
 small count few = omega arith
 
-pub run_line-tokens : (count : ℕ) → count ≤ 4000000 → tokens_of (run_line count) ≡ codes "run" ∷ decimal count ∷ []
+pub run_line-tokens : (count : ℕ) → count ≤ MOST_RUN_STEPS → tokens_of (run_line count) ≡ codes "run" ∷ decimal count ∷ []
 run_line-tokens count few = tokens_of-word (codes "run") (decimal count) run_word ∙ ap (λ words. codes "run" ∷ words) (tokens_of-last (decimal count) (decimal_word count (small count few)))
 
 number_in_limits : (b : Bool) (count : ℕ) → b ≡ true → cond b (Some count) None ≡ Some count
 number_in_limits true count h = refl
 number_in_limits false count h = cc
 
-pub run_line-length : (count : ℕ) → count ≤ 4000000 → stated_length (tokens_of (run_line count)) ≡ Some count
+pub run_line-length : (count : ℕ) → count ≤ MOST_RUN_STEPS → stated_length (tokens_of (run_line count)) ≡ Some count
 run_line-length count few =
     ap stated_length (run_line-tokens count few)
-    ∙ ap (up_to 4000000) ((numbers_are_decimal count (decimal count) (small count few)).1 refl)
-    ∙ number_in_limits (nat_le count 4000000) count (is_most count 4000000 few)
+    ∙ ap (up_to MOST_RUN_STEPS) ((numbers_are_decimal count (decimal count) (small count few)).1 refl)
+    ∙ number_in_limits (nat_le count MOST_RUN_STEPS) count (is_most count MOST_RUN_STEPS few)
 
 -- the lines of the text of a run
 pub counted_from-run : (net : Net) (n : ℕ) (steps : List RunStep) → AreNamed net steps → counted_from 35 n (text_of_run net steps) ≡ numbered n (run_line (length steps)) ∷ step_lines net (n + 1) steps

@@ -14,12 +14,13 @@ use Rattle.report.specs.Replies.{text_of_run}
 use Rattle.report.specs.ReadBack.{IsPrintable, IsRunText, PrintedRunsReadBack, RepliesReadBack}
 use Rattle.report.proofs.DecimalWords.{decimal_bytes}
 use Rattle.report.proofs.PrintedRuns.{end_of_line, AreNamed, are_named, step_lines, no_fault_of_steps, steps_of-lines, run_line, run_line-tokens, run_line-length, counted_from-run}
+use Rattle.replay.specs.declared.TheConstants.{MOST_RUN_STEPS}
 
 abbrev run_lines : Net → ℕ → List RunStep → List NumberedLine
 run_lines net n steps = numbered n (run_line (length steps)) ∷ step_lines net (n + 1) steps
 
 -- a text reads back whose lines are those of the run, but for the first line of a reply
-read_lines : (net : Net) (steps : List RunStep) (text : List ℕ) (n : ℕ) → AreNamed net steps → length steps ≤ 4000000 → after_reply_line (counted_from 35 1 text) ≡ run_lines net n steps → IsRunText net steps text
+read_lines : (net : Net) (steps : List RunStep) (text : List ℕ) (n : ℕ) → AreNamed net steps → length steps ≤ MOST_RUN_STEPS → after_reply_line (counted_from 35 1 text) ≡ run_lines net n steps → IsRunText net steps text
 read_lines net steps text n named few lines = record {
   well = ap (run_fault_of_lines net (last_line text)) lines
       ∙ ap (λ stated. fault_of_steps net (last_line text) n stated (step_lines net (n + 1) steps)) (run_line-length (length steps) few)
@@ -38,7 +39,7 @@ skip_step true line lines h = refl
 skip_step false line lines h = cc
 
 -- the text of a run behind such a line
-behind_reply : (net : Net) (line : List ℕ) (steps : List RunStep) → IsReplyLine line → AreNamed net steps → length steps ≤ 4000000 → IsRunText net steps (line ++ 10 ∷ text_of_run net steps)
+behind_reply : (net : Net) (line : List ℕ) (steps : List RunStep) → IsReplyLine line → AreNamed net steps → length steps ≤ MOST_RUN_STEPS → IsRunText net steps (line ++ 10 ∷ text_of_run net steps)
 behind_reply net line steps h named few =
     read_lines net steps (line ++ 10 ∷ text_of_run net steps) 2 named few
     (ap after_reply_line (counted_from-line 35 1 line (text_of_run net steps) h.bytes h.counts)
@@ -47,7 +48,7 @@ behind_reply net line steps h named few =
 
 -- ---- the text of a run alone
 
-run_alone : (net : Net) (steps : List RunStep) → AreNamed net steps → length steps ≤ 4000000 → IsRunText net steps (text_of_run net steps)
+run_alone : (net : Net) (steps : List RunStep) → AreNamed net steps → length steps ≤ MOST_RUN_STEPS → IsRunText net steps (text_of_run net steps)
 run_alone net steps named few =
     read_lines net steps (text_of_run net steps) 1 named few
     (ap after_reply_line (counted_from-run net 1 steps named)

@@ -10,6 +10,7 @@ use Rattle.replay.specs.Traced.{word_of}
 use Rattle.replay.specs.declared.run.RunStep.{RunStep}
 use Rattle.answers.specs.declared.found.Found.{Found}
 use Rattle.report.specs.Replies.{text_of_run, text_of_found, told_run}
+use Rattle.replay.specs.declared.TheConstants.{MOST_RUN_STEPS}
 
 -- the alarms of a run have names
 abbrev pub HasAlarmNames : List RunStep → Type 0
@@ -19,7 +20,7 @@ HasAlarmNames steps = All (λ step. IfSome (name_on step) IsName) steps
 pub record IsPrintable (net : Net) (steps : List RunStep) : Type 0 where
   pub known : All (λ e. e < length net.events) (word_of steps)
   pub named : HasAlarmNames steps
-  pub few : length steps ≤ 4000000
+  pub few : length steps ≤ MOST_RUN_STEPS
 
 -- The text is a run text without a fault, and this is its run.
 pub record IsRunText (net : Net) (steps : List RunStep) (text : List ℕ) : Type 0 where

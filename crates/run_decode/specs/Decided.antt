@@ -8,6 +8,7 @@ use Rattle.prop_core.specs.declared.lit.Lit.{Lit}
 use Rattle.replay.specs.Explanation.{IsExplained, NeedsFaults, IsLeast, IsAbsent, IsMany}
 use Rattle.run_decode.specs.Faithful.{MakesTrue, IsFaithful}
 use Rattle.run_decode.specs.Question.{Asks}
+use Rattle.replay.specs.declared.TheConstants.{MOST_FAULTS}
 
 -- no assignment makes clauses and assumptions true
 abbrev pub AreUnsatisfiable : List Clause → List Lit → Type 0
@@ -21,7 +22,7 @@ Entails clauses clause = (assignment : ℕ → Bool) → AllClausesTrue assignme
 pub record IsAbove (net : Net) (log : Log) (n b : ℕ) : Type 0 where
   pub above : NeedsFaults net log n (suc b)
   pub least : IsExplained net log n (suc b) → IsLeast net log n (suc b)
-  pub many : b ≡ 255 → (faults : ℕ) → IsExplained net log n faults → IsMany net log n
+  pub many : b ≡ MOST_FAULTS → (faults : ℕ) → IsExplained net log n faults → IsMany net log n
 
 -- Without a bound nothing explains the log.
 abbrev pub Decides : Net → Log → ℕ → Option ℕ → Type 0

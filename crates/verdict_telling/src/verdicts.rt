@@ -12,6 +12,7 @@ ghost use Rattle.verdict_telling.specs.Left.{BeginsWithQuestion};
 ghost use Rattle.verdict_telling.specs.Replied.{TellsVerdicts};
 ghost use Rattle.verdict_telling.specs.Stages.{HasTold, TellsOfAll};
 ghost use Rattle.telling.specs.Telling.{RisesExactlyIf};
+ghost use Rattle.replay.specs.declared.TheConstants.{MOST_FAULTS};
 
 use crate::teller::VerdictTeller;
 use des_base::{Memory, Sink};
@@ -38,7 +39,7 @@ pub fn tell_verdicts<R: Fn(u32) -> u64, S: Sink>(
 ) -> Result<bool, Broken>
     requires belong { BelongTo net.now log.now parts }
     requires steps { parts.step.steps ≤ MOST_STEPS }
-    requires few { best.now.faults ≤ 255 }
+    requires few { best.now.faults ≤ MOST_FAULTS }
     requires known { IsBestRun net.now log.now parts.step.steps best.now.faults best.now.run }
     requires ready { AreReadyForVerdicts R.pre R.post parts book.old.entries }
     ensures tells { TellsVerdicts (record { net = net.now; log = log.now; steps = parts.step.steps; best = best.now; budget = budget }) book.old.entries book.new.entries (S.taken out.old) (S.taken out.new) (Rose (S.faults out.old) (S.faults out.new)) result }
