@@ -63,6 +63,10 @@ packed_more clauses packed more numbers places i moved h keeps all same is =
 pub numbers_more : (packed more : List Clause) (places : List ℕ) (moved : ℕ) → KeepsNumbers packed more → AreNumbersOf packed places → moved ≤ length more → AreNumbersOf more (places ++ moved ∷ [])
 numbers_more packed more places moved keeps all h = numbers-append places moved (length more) (λ k. omega (arith, all k, keeps.more)) h
 
+-- where numbers are the same by place, so are their clauses
+pub same_at : (cs : List Clause) (old grown : List ℕ) → ((k : ℕ) → get_or grown k 0 ≡ get_or old k 0) → (k : ℕ) → get_or (map (clause_numbered cs) grown) k None ≡ get_or (map (clause_numbered cs) old) k None
+same_at cs old grown same k = sym (clause_at cs grown k) ∙ ap (clause_numbered cs) (same k) ∙ clause_at cs old k
+
 -- a place has a clause that is added
 pub set_at : (cs : List Clause) (c : Clause) (old grown new : List ℕ) (place number : ℕ) → AreNumbersOf cs old → ((k : ℕ) → get_or grown k 0 ≡ get_or old k 0) → number ≡ length (cs ++ c ∷ [])
     → ((k : ℕ) → get_or new k 0 ≡ cond (k == place) number (get_or grown k 0))

@@ -1,5 +1,5 @@
 -- What a proof comes to whose steps are taken in order.
-use Rattle.std.specs.Prelude.{ℕ, ◌==◌, Bool, true, false, List, [], ◌∷◌, Option, Some, None, if◌then◌else◌, nat_eq}
+use Rattle.std.specs.Prelude.{◌≡◌, ◌⊎◌, ℕ, ◌==◌, Bool, true, false, List, [], ◌∷◌, Option, Some, None, if◌then◌else◌, nat_eq}
 use Rattle.std.specs.List.{list_any}
 use Rattle.prop_core.specs.Clauses.{Clause, AllClausesTrue}
 use Rattle.prop_core.specs.Derivation.{derive, Derivation, derives, fails, clause_numbered}
@@ -54,6 +54,10 @@ rest_gives (holds held) steps = check_from held steps
 abbrev pub after_next : Checking → ProofStep → Checking
 after_next (answered checked) step = answered checked
 after_next (holds held) step = after_step held step
+
+-- where memory runs out in an addition, all is as it was, or the clause of its number is held no longer
+abbrev pub IsLeftBy : ℕ → Checking → Checking → Type 0
+IsLeftBy id old new = (new ≡ old) ⊎ (new ≡ after_next old (Delete (id ∷ [])))
 
 -- no assignment makes all clauses true
 abbrev pub IsUnsatisfiable : List Clause → Type 0

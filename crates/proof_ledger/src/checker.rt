@@ -1,8 +1,8 @@
 // The checker of proofs.
-ghost use Rattle.std.specs.Prelude.{◌≡◌, [], IfOk, OnOk};
+ghost use Rattle.std.specs.Prelude.{◌≡◌, [], IfOk, OnErr, OnOk};
 ghost use Rattle.prop_core.specs.Derivation.{clause_numbered};
 ghost use Rattle.proof_ledger.specs.declared.checker.ProofStep.TheVariants as steps;
-ghost use Rattle.proof_ledger.specs.Checking.{IsUnsatisfiable, holds, after_next, check_proof, rest_gives};
+ghost use Rattle.proof_ledger.specs.Checking.{IsLeftBy, IsUnsatisfiable, holds, after_next, check_proof, rest_gives};
 ghost use Rattle.proof_ledger.specs.Checkers.{reached};
 
 use crate::follow::{Outcome, derive_by};
@@ -75,7 +75,7 @@ impl<'a> Checker<'a> {
 
     /// Takes an addition. It ends the proof if the hints don't derive the clause, or if the clause is empty.
     ///
-    /// If memory runs out, the clause that was held by this number may be gone, and nothing is said of what was reached: begin anew.
+    /// If memory runs out, the clause that was held by this number may be held no longer; all else is as it was.
     pub fn add(
         &mut self,
         line: u32,
@@ -83,7 +83,8 @@ impl<'a> Checker<'a> {
         clause: &[Lit],
         hints: &[ClauseId],
     ) -> Result<(), Memory>
-        ensures { OnOk result (reached self.new ≡ after_next (reached self.old) (steps.Add line id clause.now hints.now)) }
+        ensures failed { OnErr result (IsLeftBy id (reached self.old) (reached self.new)) }
+        ensures taken { OnOk result (reached self.new ≡ after_next (reached self.old) (steps.Add line id clause.now hints.now)) }
     {
         if self.outcome.is_some() {
             return Ok(());

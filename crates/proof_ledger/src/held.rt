@@ -1,5 +1,5 @@
 // The clauses that a checker holds, by their numbers.
-ghost use Rattle.std.specs.Prelude.{◌≡◌, ℕ, ◌==◌, ◌∷◌, [], None, Some, true, IfOk, OnOk, IfSome, if◌then◌else◌, length, slice_index_or};
+ghost use Rattle.std.specs.Prelude.{◌≡◌, ℕ, ◌==◌, ◌∷◌, [], None, Some, true, IfOk, OnOk, OnErr, IfSome, if◌then◌else◌, length, slice_index_or};
 ghost use Rattle.std.specs.BTreeMap.{get};
 ghost use Rattle.std.specs.Option.{option_copied};
 ghost use Rattle.std.specs.Ordering.{nat_cmp};
@@ -67,7 +67,8 @@ impl<'a> HeldClauses<'a> {
 
     // Holds a clause by a number, and no other by this number.
     pub fn add(&mut self, number: u64, clause: &[Lit]) -> Result<(), Memory>
-        ensures { OnOk result ((asked : ℕ) → held_by self.new asked ≡ with_clause (held_by self.old) number clause.now asked) }
+        ensures failed { OnErr result ((asked : ℕ) → held_by self.new asked ≡ without (held_by self.old) (number ∷ []) asked) }
+        ensures added { OnOk result ((asked : ℕ) → held_by self.new asked ≡ with_clause (held_by self.old) number clause.now asked) }
     {
         self.remove(number);
         self.added = self.added.saturating_add(1);
@@ -155,7 +156,8 @@ fn insert(
     number: u64,
     clause: ListOf<Lit>,
 ) -> Result<(), Memory>
-    ensures { OnOk result ((asked : ℕ) → get nat_cmp far.new asked ≡ (if asked == number then Some clause else get nat_cmp far.old asked)) }
+    ensures failed { OnErr result ((asked : ℕ) → get nat_cmp far.new asked ≡ get nat_cmp far.old asked) }
+    ensures inserted { OnOk result ((asked : ℕ) → get nat_cmp far.new asked ≡ (if asked == number then Some clause else get nat_cmp far.old asked)) }
 {
     far.insert(number, clause)?;
     Ok(())

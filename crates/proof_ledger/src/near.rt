@@ -1,5 +1,5 @@
 // Clauses by places that lie close together.
-ghost use Rattle.std.specs.Prelude.{◌≡◌, ℕ, ◌==◌, ◌≤◌, ◌<◌, [], length, map, None, Some, OnOk, IfOk, slice_index_or, vec_len, if◌then◌else◌};
+ghost use Rattle.std.specs.Prelude.{◌≡◌, ℕ, ◌==◌, ◌≤◌, ◌<◌, [], length, map, None, Some, OnOk, OnErr, IfOk, slice_index_or, vec_len, if◌then◌else◌};
 ghost use Rattle.std.specs.Option.{option_copied};
 ghost use Rattle.prop_core.specs.Derivation.{clause_numbered};
 ghost use Rattle.proof_ledger.specs.ClauseNumbers.{AreNumbersOf, KeepsNumbers};
@@ -70,7 +70,8 @@ impl NearClauses {
 
     // A place that has no clause gets one.
     pub fn set(&mut self, place: u64, clause: &[Lit]) -> Result<(), Memory>
-        ensures { OnOk result ((asked : ℕ) → slice_index_or self.new asked None ≡ (if asked == place then Some clause.now else slice_index_or self.old asked None)) }
+        ensures failed { OnErr result ((asked : ℕ) → slice_index_or self.new asked None ≡ slice_index_or self.old asked None) }
+        ensures set { OnOk result ((asked : ℕ) → slice_index_or self.new asked None ≡ (if asked == place then Some clause.now else slice_index_or self.old asked None)) }
     {
         grow(&mut self.numbers, place)?;
         let id = self.clauses.push(clause)?;
@@ -81,7 +82,7 @@ impl NearClauses {
 
     // Lets clauses without a place go, once their literals are more than those of the others and than there are places.
     pub fn pack_if_idle(&mut self) -> Result<(), Memory>
-        ensures { OnOk result (self.new ≡ self.old) }
+        ensures { self.new ≡ self.old }
     {
         let standing = self.literals.saturating_sub(self.idle);
         let places = self.numbers.len();
