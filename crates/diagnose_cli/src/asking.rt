@@ -52,12 +52,12 @@ pub trait Replying: Inquiry {
 
 /// A question by an inquiry, within this many parallel steps.
 #[derive(Drop)]
-pub struct Question<Q> {
+pub struct CommandQuestion<Q> {
     steps: u32,
     inquiry: Q,
 }
 
-impl<Q: Replying> Answering for Question<Q> {
+impl<Q: Replying> Answering for CommandQuestion<Q> {
     type Files = Case;
 
     ghost named = { asking Q.question };
@@ -72,10 +72,10 @@ impl<Q: Replying> Answering for Question<Q> {
         5
     }
 
-    fn read(words: &WordList) -> Option<Question<Q>> {
+    fn read(words: &WordList) -> Option<CommandQuestion<Q>> {
         let steps = steps_of(words.word(3))?;
         let inquiry = Q::read(words.word(4))?;
-        Some(Question { steps, inquiry })
+        Some(CommandQuestion { steps, inquiry })
     }
 
     fn answer(

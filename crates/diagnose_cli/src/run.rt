@@ -15,7 +15,7 @@ ghost use Rattle.diagnose_cli.specs.Run.{CallsNone, LeavesAlone, Ran, Responds};
 ghost use Rattle.telling.specs.Telling.{RisesExactlyIf};
 
 use crate::answering::{Answering, answer_over, read_command};
-use crate::asking::Question;
+use crate::asking::CommandQuestion;
 use crate::bench_command::BenchCommand;
 use crate::cheapest_command::CheapestCommand;
 use crate::check_command::CheckCommand;
@@ -91,9 +91,11 @@ fn respond<F: Shelf, S: Sink>(
         "bench" => put_reply::<BenchCommand, F, S>(alloc, words, shelf, out, book),
         "twin" => put_reply::<TwinCommand, F, S>(alloc, words, shelf, out, book),
         "cheapest" => put_reply::<CheapestCommand, F, S>(alloc, words, shelf, out, book),
-        "diagnose" => put_reply::<Question<LeastFaults>, F, S>(alloc, words, shelf, out, book),
-        "cnf" => put_reply::<Question<FormulaWithin>, F, S>(alloc, words, shelf, out, book),
-        "proof" => put_reply::<Question<Refutation>, F, S>(alloc, words, shelf, out, book),
+        "diagnose" => put_reply::<CommandQuestion<LeastFaults>, F, S>(
+            alloc, words, shelf, out, book,
+        ),
+        "cnf" => put_reply::<CommandQuestion<FormulaWithin>, F, S>(alloc, words, shelf, out, book),
+        "proof" => put_reply::<CommandQuestion<Refutation>, F, S>(alloc, words, shelf, out, book),
         "session" => put_replies::<SessionCommand, F, S>(alloc, words, shelf, out, book),
         "verdicts" => put_replies::<VerdictsCommand, F, S>(alloc, words, shelf, out, book),
         _ => put_usage(alloc, words, shelf, out, book),

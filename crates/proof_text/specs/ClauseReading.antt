@@ -1,19 +1,19 @@
 -- How the clauses of a formula are read, token by token.
 use Rattle.std.specs.Prelude.{ℕ, List, [], ◌∷◌, ◌++◌, if◌then◌else◌}
 use Rattle.prop_core.specs.Clauses.{Clause}
-use Rattle.proof_text.specs.declared.number.Entry.{Entry}
-use Rattle.proof_text.specs.declared.number.Entry.TheVariants.{Literal, End}
+use Rattle.proof_text.specs.declared.number.ClauseItem.{ClauseItem}
+use Rattle.proof_text.specs.declared.number.ClauseItem.TheVariants.{Literal, End}
 use Rattle.proof_text.specs.SignedNumbers.{is_number, is_zero, literal_of}
 use Rattle.proof_text.specs.CnfText.{LinedToken}
 use Rattle.proof_text.specs.TextFaults.{not_a_number, unknown_variable}
 
--- the clause that an entry ends, where these literals stand before it
-abbrev pub ended_by : Entry → Clause → List Clause
+-- the clause that an item ends, where these literals stand before it
+abbrev pub ended_by : ClauseItem → Clause → List Clause
 ended_by (Literal l) front = []
 ended_by End front = front ∷ []
 
--- the literals of a clause whose end is still to come, after an entry
-abbrev pub open_after : Entry → Clause → Clause
+-- the literals of a clause whose end is still to come, after an item
+abbrev pub open_after : ClauseItem → Clause → Clause
 open_after (Literal l) front = front ++ l ∷ []
 open_after End front = []
 

@@ -3,8 +3,8 @@
 use Rattle.std.specs.Prelude.{ℕ, ◌-◌, Bool, true, false, not, ◌&&◌, ◌==◌, nat_le, List, [], ◌∷◌, Option, None, Some, option_map, option_and_then, unwrap_or, is_some, if◌then◌else◌}
 use Rattle.des_base.specs.Numbers.{number_of}
 use Rattle.prop_core.specs.declared.lit.Lit.{Lit}
-use Rattle.proof_text.specs.declared.number.Entry.{Entry}
-use Rattle.proof_text.specs.declared.number.Entry.TheVariants.{Literal, End}
+use Rattle.proof_text.specs.declared.number.ClauseItem.{ClauseItem}
+use Rattle.proof_text.specs.declared.number.ClauseItem.TheVariants.{Literal, End}
 
 -- a number by its size, and whether a `-` stands before it
 pub record Signed : Type 0 where
@@ -53,13 +53,13 @@ abbrev pub literal_of : List ℕ → Lit
 literal_of text = literal (number_in text)
 
 -- a number among the literals of a clause: a literal, or the clause's end
-abbrev pub entry : Signed → Entry
-entry n = if n.size == 0 then End else Literal (literal n)
+abbrev pub item : Signed → ClauseItem
+item n = if n.size == 0 then End else Literal (literal n)
 
 -- the number, where its size is at most `vars`
 abbrev pub within : ℕ → Signed → Option Signed
 within vars n = if nat_le n.size vars then Some n else None
 
 -- the literal or the end that a text spells, where it is a number and its variable is one of the first `vars`
-abbrev pub entry_within : ℕ → List ℕ → Option Entry
-entry_within vars text = option_map entry (option_and_then (within vars) (signed_of text))
+abbrev pub item_within : ℕ → List ℕ → Option ClauseItem
+item_within vars text = option_map item (option_and_then (within vars) (signed_of text))

@@ -7,7 +7,7 @@ ghost use Rattle.proof_text.specs.CnfText.{LinedToken, lined, some_open, end_cod
 use crate::body::{BodyToken, BodyTokens};
 use crate::fault::{NOT_A_NUMBER, NOT_ENDED, OTHER_COUNT, TextRefusal, UNKNOWN_VARIABLE, fault_at};
 use crate::header::Header;
-use crate::number::{Entry, is_number, read_entry};
+use crate::number::{ClauseItem, is_number, read_item};
 use des_base::{Memory, VAR_LIMIT};
 use prop_core::{Clauses, Lit};
 use std::alloc::Global;
@@ -45,7 +45,7 @@ impl ClauseReader {
         ensures faults { (end : ℕ) (later : List LinedToken) → MatchResult result (λ _. fault_of_tokens self.old.vars end self.old.left (some_open self.old.front.items) (lined token.entry.line token.entry.text.now ∷ later) ≡ fault_of_tokens self.new.vars end self.new.left (some_open self.new.front.items) later) (IsTextDue (fault_of_tokens self.old.vars end self.old.left (some_open self.old.front.items) (lined token.entry.line token.entry.text.now ∷ later))) }
         ensures clauses { OnOk result ((later : List LinedToken) → self.new.clauses.clauses ++ spelled_clauses self.new.front.items later ≡ self.old.clauses.clauses ++ spelled_clauses self.old.front.items (lined token.entry.line token.entry.text.now ∷ later)) }
     {
-        let Some(entry) = read_entry(token.text, self.vars) else {
+        let Some(item) = read_item(token.text, self.vars) else {
             return Err(fault_at(token.line, entry_code(token.text)));
         };
         if self.front.is_empty() {
@@ -54,20 +54,20 @@ impl ClauseReader {
             }
             self.left -= 1;
         }
-        self.put(entry)?;
+        self.put(item)?;
         Ok(())
     }
 
     // A literal goes on with the open clause, and an end ends it.
-    fn put(&mut self, entry: Entry) -> Result<(), Memory>
+    fn put(&mut self, item: ClauseItem) -> Result<(), Memory>
         ensures vars { self.new.vars ≡ self.old.vars }
         ensures left { self.new.left ≡ self.old.left }
-        ensures clauses { OnOk result (self.new.clauses.clauses ≡ self.old.clauses.clauses ++ ended_by entry self.old.front.items) }
-        ensures front { OnOk result (self.new.front.items ≡ open_after entry self.old.front.items) }
+        ensures clauses { OnOk result (self.new.clauses.clauses ≡ self.old.clauses.clauses ++ ended_by item self.old.front.items) }
+        ensures front { OnOk result (self.new.front.items ≡ open_after item self.old.front.items) }
     {
-        match entry {
-            Entry::Literal(lit) => self.front.push(lit)?,
-            Entry::End => {
+        match item {
+            ClauseItem::Literal(lit) => self.front.push(lit)?,
+            ClauseItem::End => {
                 self.clauses.push(&self.front)?;
                 self.front.clear();
             }
@@ -86,7 +86,7 @@ impl ClauseReader {
     }
 }
 
-// The code of a token that isn't an entry.
+// The code of a token that isn't an item.
 fn entry_code(text: &[u8]) -> u8
     ensures { result ≡ entry_code text.now }
 {

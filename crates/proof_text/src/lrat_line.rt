@@ -5,7 +5,7 @@ ghost use Rattle.proof_text.specs.LratText.{is_deletion_mark};
 ghost use Rattle.proof_text.specs.LineReading.{if_read, ids_section, literals_section, ids_only, literals_and_hints, line_read};
 ghost use Rattle.proof_text.specs.StepParts.{step_with};
 
-use crate::number::{Entry, read_entry};
+use crate::number::{ClauseItem, read_item};
 use des_base::{Line, Memory, Tokens, VAR_LIMIT, read_number};
 use prop_core::{ClauseId, Lit};
 use std::alloc::Global;
@@ -117,10 +117,10 @@ fn read_literals(tokens: &mut Tokens<'_>, vars: u32, clause: &mut Vec<Lit>) -> R
 {
     clause.clear();
     while let Some(token) = tokens.next_token() {
-        match read_entry(token.text, vars) {
+        match read_item(token.text, vars) {
             None => return Ok(false),
-            Some(Entry::End) => return Ok(true),
-            Some(Entry::Literal(lit)) => clause.push(lit)?,
+            Some(ClauseItem::End) => return Ok(true),
+            Some(ClauseItem::Literal(lit)) => clause.push(lit)?,
         }
     }
     Ok(false)

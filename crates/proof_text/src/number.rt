@@ -3,32 +3,32 @@ ghost use Rattle.std.specs.Prelude.{◌≡◌, ◌≤◌, is_some, nat_lt};
 ghost use Rattle.std.specs.Char.{is_ascii_digit};
 ghost use Rattle.std.specs.List.{list_all};
 ghost use Rattle.des_base.specs.Numbers.{digits_value, number_of};
-ghost use Rattle.proof_text.specs.SignedNumbers.{is_number, is_negative, is_zero, size_of, entry_within};
+ghost use Rattle.proof_text.specs.SignedNumbers.{is_number, is_negative, is_zero, size_of, item_within};
 
 use des_base::{VAR_LIMIT, read_number};
 use prop_core::Lit;
 
 // A number among the literals of a clause.
 #[derive(Clone, Copy)]
-pub(crate) enum Entry {
+pub(crate) enum ClauseItem {
     Literal(Lit),
     // `0`
     End,
 }
 
 // The literal that the text spells, or the end of a clause. None where it's no number, or its variable isn't one of the first `vars`.
-pub(crate) fn read_entry(text: &[u8], vars: u32) -> Option<Entry>
+pub(crate) fn read_item(text: &[u8], vars: u32) -> Option<ClauseItem>
     requires { vars ≤ VAR_LIMIT }
-    ensures { result ≡ entry_within vars text.now }
+    ensures { result ≡ item_within vars text.now }
 {
     match text {
         [b'-', digits @ ..] => match read_number(digits, u64::from(vars))? {
             0 => None,
-            size => Some(Entry::Literal(Lit::new(size as u32 - 1, false))),
+            size => Some(ClauseItem::Literal(Lit::new(size as u32 - 1, false))),
         },
         _ => match read_number(text, u64::from(vars))? {
-            0 => Some(Entry::End),
-            size => Some(Entry::Literal(Lit::new(size as u32 - 1, true))),
+            0 => Some(ClauseItem::End),
+            size => Some(ClauseItem::Literal(Lit::new(size as u32 - 1, true))),
         },
     }
 }

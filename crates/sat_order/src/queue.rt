@@ -11,7 +11,7 @@ use std::marker::Model;
 // Variables of equal rank that were added one after another, from the end of the run before it up to its own. None of them waits
 // before `next`.
 #[derive(Clone, Copy)]
-pub struct Run {
+pub struct RankRun {
     pub rank: u64,
     pub next: u32,
     pub end: u32,
@@ -22,7 +22,7 @@ pub struct Run {
 pub struct Queue {
     ranks: Vec<u64>,
     waiting: Vec<bool>,
-    runs: Vec<Run>,
+    runs: Vec<RankRun>,
     spare: usize,
 }
 
@@ -123,7 +123,7 @@ impl Queue {
 }
 
 // Adds a variable to the last run if that has its rank, and otherwise to a new one.
-fn lengthen(runs: &mut Vec<Run>, rank: u64, var: u32)
+fn lengthen(runs: &mut Vec<RankRun>, rank: u64, var: u32)
     requires room { vec_len runs.old + 1 ≤ vec_capacity runs.old }
     requires limit { var < VAR_LIMIT }
     ensures runs { runs.new.items ≡ lengthened runs.old.items rank var }
@@ -134,7 +134,7 @@ fn lengthen(runs: &mut Vec<Run>, rank: u64, var: u32)
     if count > 0 && runs[count - 1].rank == rank {
         runs[count - 1].end = var + 1;
     } else {
-        runs.push(Run {
+        runs.push(RankRun {
             rank,
             next: var,
             end: var + 1,
@@ -144,7 +144,7 @@ fn lengthen(runs: &mut Vec<Run>, rank: u64, var: u32)
 }
 
 // Lets the run of a variable go on from there at the latest.
-fn lower(runs: &mut [Run], var: u32)
+fn lower(runs: &mut [RankRun], var: u32)
     requires { run_place var runs.old < length runs.old }
     ensures { runs.new ≡ lowered var runs.old }
 {
@@ -154,7 +154,7 @@ fn lower(runs: &mut [Run], var: u32)
 }
 
 // The place of the run that has a variable.
-fn place_of(runs: &[Run], var: u32) -> usize
+fn place_of(runs: &[RankRun], var: u32) -> usize
     requires { run_place var runs.now < length runs.now }
     ensures { result ≡ run_place var runs.now }
 {
@@ -166,7 +166,7 @@ fn place_of(runs: &[Run], var: u32) -> usize
 }
 
 // Moves each run on to the first of its variables that waits.
-fn move_on(runs: &mut [Run], waiting: &[bool])
+fn move_on(runs: &mut [RankRun], waiting: &[bool])
     ensures { runs.new ≡ map (moved_on waiting.now) runs.old }
 {
     for run in runs.iter_mut() {
@@ -175,10 +175,10 @@ fn move_on(runs: &mut [Run], waiting: &[bool])
 }
 
 // A run at the first of its variables that waits.
-fn moved_on(run: Run, waiting: &[bool]) -> Run
+fn moved_on(run: RankRun, waiting: &[bool]) -> RankRun
     ensures { result ≡ moved_on waiting.now run }
 {
-    Run {
+    RankRun {
         rank: run.rank,
         next: first_waiting(waiting, run.next, run.end),
         end: run.end,
@@ -207,10 +207,10 @@ fn waits(waiting: &[bool], var: u32) -> bool
 }
 
 // Of the runs in which a variable waits, the first with the greatest rank.
-fn best(runs: &[Run]) -> Option<Run>
+fn best(runs: &[RankRun]) -> Option<RankRun>
     ensures { result ≡ best_run None runs.now }
 {
-    let mut best: Option<Run> = None;
+    let mut best: Option<RankRun> = None;
     for run in runs {
         best = better(best, *run);
     }
@@ -218,7 +218,7 @@ fn best(runs: &[Run]) -> Option<Run>
 }
 
 // A run if a variable waits in it, and it has a greater rank than the best of those before it, which is kept otherwise.
-fn better(best: Option<Run>, run: Run) -> Option<Run>
+fn better(best: Option<RankRun>, run: RankRun) -> Option<RankRun>
     ensures { result ≡ better_run best run }
 {
     if run.next >= run.end {

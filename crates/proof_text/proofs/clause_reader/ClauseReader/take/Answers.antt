@@ -16,8 +16,8 @@ returns-clause-clauses c = λ later.
       | then-is_empty+else-self-eq0 w ↦ ap (λ (s : ClauseReader). s.clauses.clauses) w.self-is
       | else-is_empty w ↦ ap (λ (s : ClauseReader). s.clauses.clauses) w.self-is
     ] in
-    clauses_after c.args.token.text.now c.args.self.now.vars c.args.token.line c.in-Some.entry c.args.self.now.front.items c.args.self.now.clauses.clauses _ _ later c.in-Some.ensures
+    clauses_after c.args.token.text.now c.args.self.now.vars c.args.token.line c.in-Some.item c.args.self.now.front.items c.args.self.now.clauses.clauses _ _ later c.in-Some.ensures
     (c.in_ok-put.ensures.clauses
-    ∙ ap (λ cs. cs ++ ended_by c.in-Some.entry c.if-is_empty.self.front.items) clauses
-    ∙ ap (λ f. c.args.self.now.clauses.clauses ++ ended_by c.in-Some.entry f) front)
-    (c.in_ok-put.ensures.front ∙ ap (open_after c.in-Some.entry) front)
+    ∙ ap (λ cs. cs ++ ended_by c.in-Some.item c.if-is_empty.self.front.items) clauses
+    ∙ ap (λ f. c.args.self.now.clauses.clauses ++ ended_by c.in-Some.item f) front)
+    (c.in_ok-put.ensures.front ∙ ap (open_after c.in-Some.item) front)
