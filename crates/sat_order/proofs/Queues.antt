@@ -1,11 +1,14 @@
 -- The runs of variables through their changes.
-use Rattle.std.proofs.Common.{◌≡◌, ◌∙◌, ℕ, zero, suc, ◌+◌, ◌-◌, ◌<◌, ◌≤◌, Bool, true, false, ◌++◌, ◌∷◌, [], List, refl, ap, sym, length, get_or, arith, subst, inl, inr, ⊎_elim, eqb, ltb, cond, slice_set, map, min, drop, take}
+use Rattle.std.proofs.Common.{◌≡◌, ◌∙◌, ℕ, zero, suc, ◌+◌, ◌-◌, ◌<◌, ◌≤◌, Bool, true, false, ◌++◌, ◌∷◌, [], List, refl, ap, sym, length, get_or, arith, subst, inl, inr, ⊎_elim, eqb, ltb, cond, slice_set, map, min, drop, take, append_assoc}
 use Rattle.std.specs.Prelude.{Option, Some, None}
+use Rattle.std.specs.List.{AllByRecursion, AllZip}
+use Rattle.std.proofs.lemmas.List.{length-take, get_or_at, set_at, drop_more}
+use Rattle.std.proofs.lemmas.List.Elements.{length_all_zip, all_zip_more}
 use Rattle.std.proofs.lemmas.Grind.{common_steps}
 use Rattle.std.proofs.lemmas.Bool.{eqb-true, ltb-true, ltb-false, eq-eqb, ne_eqb, cases_lt, cases_eq, cases_order}
 use Rattle.sat_order.specs.declared.queue.RankRun.{RankRun}
 use Rattle.sat_order.specs.Waiting.{rank_of, waits, ComesFirst, IsNext, NoneWaits}
-use Rattle.sat_order.specs.Queue.{IsRankRun, AreRuns, IsQueue, lengthened, run_place, lowered, first_waiting, moved_on, better_run, best_run}
+use Rattle.sat_order.specs.Queue.{IsRankRun, AreRuns, IsQueue, Lengthens, EndsBehind, IsPlaceOf, LetsWait, IsFirstWaiting, IsMovedOn, WaitsNext, IsBest}
 
 -- runs stay what they are where their variables keep their ranks, and those that didn't wait don't
 IsRankRun-kept : (ranks new : List ℕ) (waiting now : List Bool) (first last : ℕ) (run : RankRun) → run.end ≤ last → ((var : ℕ) → var < last → rank_of new var ≡ rank_of ranks var) →
@@ -39,156 +42,179 @@ one_more ranks waiting rank var e = record {
   passed = λ other a b. absurd (omega arith);
 }
 
-AreRuns-longer : (ranks : List ℕ) (waiting : List Bool) (rank first var : ℕ) (runs : List RankRun) → rank_of ranks var ≡ rank → AreRuns ranks waiting first var runs → AreRuns ranks waiting first (var + 1) (lengthened runs rank var)
-AreRuns-longer ranks waiting rank first var [] e r = let f : first ≡ var = r in rw f (one_more ranks waiting rank var e, refl)
-AreRuns-longer ranks waiting rank first var (run ∷ []) e r = by (eqb run.rank rank) refl
-  where
-    by : (t : Bool) → eqb run.rank rank ≡ t → AreRuns ranks waiting first (var + 1) (cond t (record { rank = run.rank; next = run.next; end = var + 1 } ∷ []) (run ∷ record { rank = rank; next = var; end = var + 1 } ∷ []))
-    by true t =
-        let o : run.end ≡ var = r.1 in
-        let u = r.0.upto in (
-          record {
-            from = r.0.from;
-            upto = omega arith;
-            ranked = λ other a b. ⊎_elim (λ q. ap (rank_of ranks) q ∙ e ∙ sym (eqb-true run.rank rank t)) (λ n. r.0.ranked other a (omega arith)) (cases_eq other var);
-            passed = r.0.passed;
-          },
-          refl,
-        )
-    by false t = let o : run.end ≡ var = r.1 in (r.0, rw o (one_more ranks waiting rank var e, refl))
-AreRuns-longer ranks waiting rank first var (run ∷ other ∷ runs) e r = (r.0, AreRuns-longer ranks waiting rank run.end var (other ∷ runs) e r.1)
+-- the last run becomes longer, or another one comes behind it
+longer_by_same : (ranks : List ℕ) (waiting : List Bool) (rank first var place : ℕ) (runs : List RankRun) (run : RankRun) → length runs ≡ suc place → run ≡ get_or runs place run → run.rank ≡ rank → rank_of ranks var ≡ rank →
+    AreRuns ranks waiting first var runs → AreRuns ranks waiting first (var + 1) (slice_set runs place (record { rank = run.rank; next = run.next; end = var + 1 }))
+longer_by_same ranks waiting rank first var place [] run k e f known r = absurd (let z : 0 ≡ suc place = k in omega arith)
+longer_by_same ranks waiting rank first var zero (head ∷ []) run k e f known r =
+    let same : run ≡ head = e in
+    let o : head.end ≡ var = r.1 in
+    let u = r.0.upto in
+    rw same (
+      record {
+        from = r.0.from;
+        upto = omega arith;
+        ranked = λ other a b. ⊎_elim (λ q. ap (rank_of ranks) q ∙ known ∙ sym (ap (λ (x : RankRun). x.rank) (sym same) ∙ f)) (λ n. r.0.ranked other a (omega arith)) (cases_eq other var);
+        passed = r.0.passed;
+      },
+      refl,
+    )
+longer_by_same ranks waiting rank first var (suc place) (head ∷ []) run k e f known r = absurd (let z : 1 ≡ suc (suc place) = k in omega arith)
+longer_by_same ranks waiting rank first var zero (head ∷ other ∷ runs) run k e f known r = absurd (let z : suc (suc (length runs)) ≡ 1 = k in omega arith)
+longer_by_same ranks waiting rank first var (suc place) (head ∷ other ∷ runs) run k e f known r =
+    let z : suc (suc (length runs)) ≡ suc (suc place) = k in (
+      r.0,
+      longer_by_same ranks waiting rank head.end var place (other ∷ runs) run (let y : suc (length runs) ≡ suc place = omega arith in y) e f known r.1,
+    )
 
-pub IsQueue-add : (ranks : List ℕ) (waiting : List Bool) (runs : List RankRun) (rank var : ℕ) → IsQueue ranks waiting runs → var ≡ length ranks → IsQueue (ranks ++ rank ∷ []) (waiting ++ true ∷ []) (lengthened runs rank var)
-IsQueue-add ranks waiting runs rank var q e =
+pub Lengthens-same : (rank var place : ℕ) (runs : List RankRun) (run : RankRun) → length runs ≡ suc place → run ≡ get_or runs place run → run.rank ≡ rank → Lengthens rank var runs (slice_set runs place (record { rank = run.rank; next = run.next; end = var + 1 }))
+Lengthens-same rank var place runs run k e f ranks waiting known r = longer_by_same ranks waiting rank 0 var place runs run k e f known r
+
+longer_by_other : (ranks : List ℕ) (waiting : List Bool) (rank first var : ℕ) (runs : List RankRun) → rank_of ranks var ≡ rank → AreRuns ranks waiting first var runs →
+    AreRuns ranks waiting first (var + 1) (runs ++ record { rank = rank; next = var; end = var + 1 } ∷ [])
+longer_by_other ranks waiting rank first var [] e r = let f : first ≡ var = r in rw f (one_more ranks waiting rank var e, refl)
+longer_by_other ranks waiting rank first var (run ∷ runs) e r = (r.0, longer_by_other ranks waiting rank run.end var runs e r.1)
+
+pub Lengthens-other : (rank var : ℕ) (runs : List RankRun) → Lengthens rank var runs (runs ++ record { rank = rank; next = var; end = var + 1 } ∷ [])
+Lengthens-other rank var runs ranks waiting known r = longer_by_other ranks waiting rank 0 var runs known r
+
+pub IsQueue-add : (ranks : List ℕ) (waiting : List Bool) (runs : List RankRun) (rank var : ℕ) (longer : List RankRun) → IsQueue ranks waiting runs → var ≡ length ranks → Lengthens rank var runs longer → IsQueue (ranks ++ rank ∷ []) (waiting ++ true ∷ []) longer
+IsQueue-add ranks waiting runs rank var longer q e lengthens =
     let long : length (ranks ++ rank ∷ []) ≡ var + 1 = rw e (grind (arith, common_steps)) in
     let last : rank_of (ranks ++ rank ∷ []) var ≡ rank = rw e (grind (arith, common_steps)) in
     let same = q.same in
     record {
       same = grind (arith, common_steps);
-      all = rw long (AreRuns-longer (ranks ++ rank ∷ []) (waiting ++ true ∷ []) rank 0 var runs last
+      all = rw long (lengthens (ranks ++ rank ∷ []) (waiting ++ true ∷ []) last
           (AreRuns-kept ranks (ranks ++ rank ∷ []) waiting (waiting ++ true ∷ []) 0 var runs
           (λ other b. let l : other < length ranks = omega arith in grind (arith, common_steps))
           (λ other a b h. let l : other < length waiting = omega arith in grind (arith, common_steps))
           (rw e q.all)));
     }
 
+drop_head : (runs : List RankRun) (place : ℕ) (run : RankRun) → place < length runs → run ≡ get_or runs place run → drop place runs ≡ run ∷ drop (place + 1) runs
+drop_head runs place run k e = grind (arith, common_steps)
+
 -- one variable waits
-AreRuns-lowered : (ranks : List ℕ) (waiting now : List Bool) (first last var : ℕ) (runs : List RankRun) → first ≤ var → var < last → ((other : ℕ) → (other ≡ var → ⊥) → waits now other ≡ waits waiting other) →
-    AreRuns ranks waiting first last runs → AreRuns ranks now first last (lowered var runs)
-AreRuns-lowered ranks waiting now first last var [] a b same r = r
-AreRuns-lowered ranks waiting now first last var (run ∷ runs) a b same r = by (ltb var run.end) refl (λ w. AreRuns-lowered ranks waiting now run.end last var runs w b same r.1)
-  where
-    by : (t : Bool) → ltb var run.end ≡ t → (run.end ≤ var → AreRuns ranks now run.end last (lowered var runs)) → AreRuns ranks now first last (cond t (record { rank = run.rank; next = min run.next var; end = run.end } ∷ runs) (run ∷ lowered var runs))
-    by true t later =
-        let w = ltb-true var run.end t in
-        let f = r.0.from in
-        let u = r.0.upto in (
-          record {
-            from = omega arith;
-            upto = omega arith;
-            ranked = r.0.ranked;
-            passed = λ other c d. let n : other ≡ var → ⊥ = λ o. absurd (omega arith) in same other n ∙ r.0.passed other c (omega arith);
-          },
-          AreRuns-kept ranks ranks waiting now run.end last runs (λ other c. refl) (λ other c d h. let n : other ≡ var → ⊥ = λ o. absurd (omega arith) in same other n ∙ h) r.1,
-        )
-    by false t later =
-        let w = ltb-false var run.end t in
-        let u = r.0.upto in (
-          record {
-            from = r.0.from;
-            upto = r.0.upto;
-            ranked = r.0.ranked;
-            passed = λ other c d. let n : other ≡ var → ⊥ = λ o. absurd (omega arith) in same other n ∙ r.0.passed other c d;
-          },
-          later w,
-        )
-
-pub IsQueue-put_back : (ranks : List ℕ) (waiting : List Bool) (runs : List RankRun) (var : ℕ) → IsQueue ranks waiting runs → var < length waiting → IsQueue ranks (slice_set waiting var true) (lowered var runs)
-IsQueue-put_back ranks waiting runs var q k =
-    let same = q.same in
-    record {
-      same = grind (arith, common_steps);
-      all = AreRuns-lowered ranks waiting (slice_set waiting var true) 0 (length ranks) var runs (omega arith) (omega arith) (λ other n. grind (arith, common_steps)) q.all;
-    }
-
--- a run has each variable
-pub place_known : (ranks : List ℕ) (waiting : List Bool) (first last var : ℕ) (runs : List RankRun) → first ≤ var → var < last → AreRuns ranks waiting first last runs → run_place var runs < length runs
-place_known ranks waiting first last var [] a b r = let e : first ≡ last = r in absurd (omega arith)
-place_known ranks waiting first last var (run ∷ runs) a b r = by (ltb var run.end) refl (λ w. place_known ranks waiting run.end last var runs w b r.1)
-  where
-    by : (t : Bool) → ltb var run.end ≡ t → (run.end ≤ var → run_place var runs < length runs) → cond t 0 (suc (run_place var runs)) < suc (length runs)
-    by true t later = omega arith
-    by false t later = let c = later (ltb-false var run.end t) in omega arith
-
-pub lowered_at : (var : ℕ) (runs : List RankRun) (run : RankRun) → run_place var runs < length runs →
-    slice_set runs (run_place var runs) (record { rank = (get_or runs (run_place var runs) run).rank; next = min (get_or runs (run_place var runs) run).next var; end = (get_or runs (run_place var runs) run).end }) ≡ lowered var runs
-lowered_at var [] run k = absurd (let z : 0 < 0 = k in omega arith)
-lowered_at var (head ∷ runs) run k = by (ltb var head.end) (lowered_at var runs run) k
-  where
-    at : ℕ → List RankRun → RankRun
-    at place all = record { rank = (get_or all place run).rank; next = min (get_or all place run).next var; end = (get_or all place run).end }
-
-    by : (t : Bool) → (run_place var runs < length runs → slice_set runs (run_place var runs) (at (run_place var runs) runs) ≡ lowered var runs) → cond t 0 (suc (run_place var runs)) < suc (length runs) →
-        slice_set (head ∷ runs) (cond t 0 (suc (run_place var runs))) (at (cond t 0 (suc (run_place var runs))) (head ∷ runs)) ≡ cond t (record { rank = head.rank; next = min head.next var; end = head.end } ∷ runs) (head ∷ lowered var runs)
-    by true later g = refl
-    by false later g = ap (λ rest. head ∷ rest) (later (omega arith))
-
--- the first that waits
-pub first_known : (waiting : List Bool) (next count : ℕ) → first_waiting waiting next count ≤ next + count
-first_known waiting next zero = omega arith
-first_known waiting next (suc count) = by (waits waiting next) (first_known waiting (suc next) count)
-  where
-    by : (t : Bool) → first_waiting waiting (suc next) count ≤ suc next + count → cond t next (first_waiting waiting (suc next) count) ≤ next + suc count
-    by true a = omega arith
-    by false a = omega arith
-
-first_from : (waiting : List Bool) (next count : ℕ) → next ≤ first_waiting waiting next count
-first_from waiting next zero = omega arith
-first_from waiting next (suc count) = by (waits waiting next) (first_from waiting (suc next) count)
-  where
-    by : (t : Bool) → suc next ≤ first_waiting waiting (suc next) count → next ≤ cond t next (first_waiting waiting (suc next) count)
-    by true a = omega arith
-    by false a = omega arith
-
-first_passes : (waiting : List Bool) (next count var : ℕ) → next ≤ var → var < first_waiting waiting next count → waits waiting var ≡ false
-first_passes waiting next zero var a b = absurd (let c : var < next = b in omega arith)
-first_passes waiting next (suc count) var a b = by (waits waiting next) refl (first_passes waiting (suc next) count var) b
-  where
-    by : (t : Bool) → waits waiting next ≡ t → (suc next ≤ var → var < first_waiting waiting (suc next) count → waits waiting var ≡ false) → var < cond t next (first_waiting waiting (suc next) count) → waits waiting var ≡ false
-    by true t later c = absurd (omega arith)
-    by false t later c = ⊎_elim (λ e. ap (waits waiting) e ∙ t) (λ n. later (omega arith) c) (cases_eq var next)
-
-first_waits : (waiting : List Bool) (next count : ℕ) → first_waiting waiting next count < next + count → waits waiting (first_waiting waiting next count) ≡ true
-first_waits waiting next zero a = absurd (let c : next < next + 0 = a in omega arith)
-first_waits waiting next (suc count) a = by (waits waiting next) refl (first_waits waiting (suc next) count) a
-  where
-    by : (t : Bool) → waits waiting next ≡ t → (first_waiting waiting (suc next) count < suc next + count → waits waiting (first_waiting waiting (suc next) count) ≡ true) → cond t next (first_waiting waiting (suc next) count) < next + suc count → waits waiting (cond t next (first_waiting waiting (suc next) count)) ≡ true
-    by true t later c = t
-    by false t later c = later (omega arith)
-
-pub first_later : (waiting : List Bool) (next count : ℕ) → 0 < count → waits waiting next ≡ false → first_waiting waiting next count ≡ first_waiting waiting (next + 1) (count - 1)
-first_later waiting next zero a t = absurd (omega arith)
-first_later waiting next (suc count) a t = let e : next + 1 ≡ suc next = omega arith in let f : suc count - 1 ≡ count = omega arith in rw (t, e, f) refl
-
--- runs at the first of their variables that waits are the same runs
-AreRuns-moved_on : (ranks : List ℕ) (waiting : List Bool) (first last : ℕ) (runs : List RankRun) → AreRuns ranks waiting first last runs → AreRuns ranks waiting first last (map (moved_on waiting) runs)
-AreRuns-moved_on ranks waiting first last [] r = r
-AreRuns-moved_on ranks waiting first last (run ∷ runs) r =
+AreRuns-lowered : (ranks : List ℕ) (waiting now : List Bool) (first last var place : ℕ) (runs : List RankRun) (some : RankRun) → first ≤ var → ((other : ℕ) → (other ≡ var → ⊥) → waits now other ≡ waits waiting other) → IsPlaceOf var runs place → AreRuns ranks waiting first last runs →
+    AreRuns ranks now first last (slice_set runs place (record { rank = (get_or runs place some).rank; next = min (get_or runs place some).next var; end = (get_or runs place some).end }))
+AreRuns-lowered ranks waiting now first last var place [] some a same p r = absurd p
+AreRuns-lowered ranks waiting now first last var zero (run ∷ runs) some a same p r =
+    let w : var < run.end = p in
     let f = r.0.from in
-    let u = r.0.upto in
-    let a = first_from waiting run.next (run.end - run.next) in
-    let b = first_known waiting run.next (run.end - run.next) in (
+    let u = r.0.upto in (
       record {
         from = omega arith;
         upto = omega arith;
         ranked = r.0.ranked;
-        passed = λ var c d. ⊎_elim (λ l. r.0.passed var c l) (λ g. first_passes waiting run.next (run.end - run.next) var g d) (cases_lt var run.next);
+        passed = λ other c d. let n : other ≡ var → ⊥ = λ o. absurd (omega arith) in same other n ∙ r.0.passed other c (omega arith);
       },
-      AreRuns-moved_on ranks waiting run.end last runs r.1,
+      AreRuns-kept ranks ranks waiting now run.end last runs (λ other c. refl) (λ other c d h. let n : other ≡ var → ⊥ = λ o. absurd (omega arith) in same other n ∙ h) r.1,
+    )
+AreRuns-lowered ranks waiting now first last var (suc place) (run ∷ runs) some a same p r =
+    let w = p.0 in
+    let u = r.0.upto in (
+      record {
+        from = r.0.from;
+        upto = r.0.upto;
+        ranked = r.0.ranked;
+        passed = λ other c d. let n : other ≡ var → ⊥ = λ o. absurd (omega arith) in same other n ∙ r.0.passed other c d;
+      },
+      AreRuns-lowered ranks waiting now run.end last var place runs some w same p.1 r.1,
     )
 
-pub IsQueue-moved_on : (ranks : List ℕ) (waiting : List Bool) (runs : List RankRun) → IsQueue ranks waiting runs → IsQueue ranks waiting (map (moved_on waiting) runs)
-IsQueue-moved_on ranks waiting runs q = record { same = q.same; all = AreRuns-moved_on ranks waiting 0 (length ranks) runs q.all }
+pub LetsWait-lowered : (var place : ℕ) (runs : List RankRun) (some : RankRun) → IsPlaceOf var runs place →
+    LetsWait var runs (slice_set runs place (record { rank = (get_or runs place some).rank; next = min (get_or runs place some).next var; end = (get_or runs place some).end }))
+LetsWait-lowered var place runs some p ranks waiting last k r = AreRuns-lowered ranks waiting (slice_set waiting var true) 0 last var place runs some (omega arith) (λ other n. grind (arith, common_steps)) p r
+
+pub IsQueue-put_back : (ranks : List ℕ) (waiting : List Bool) (runs now : List RankRun) (var : ℕ) → IsQueue ranks waiting runs → var < length waiting → LetsWait var runs now → IsQueue ranks (slice_set waiting var true) now
+IsQueue-put_back ranks waiting runs now var q k waits_too =
+    let same = q.same in
+    record {
+      same = grind (arith, common_steps);
+      all = waits_too ranks waiting (length ranks) (omega arith) q.all;
+    }
+
+-- some run has each variable
+pub EndsBehind-known : (ranks : List ℕ) (waiting : List Bool) (first last var : ℕ) (runs : List RankRun) → var < last → AreRuns ranks waiting first last runs → first ≤ var → EndsBehind var runs
+EndsBehind-known ranks waiting first last var [] k r a = let e : first ≡ last = r in absurd (omega arith)
+EndsBehind-known ranks waiting first last var (run ∷ runs) k r a = ⊎_elim (λ l. inl l) (λ g. inr (EndsBehind-known ranks waiting run.end last var runs k r.1 g)) (cases_lt var run.end)
+
+-- the first run that ends behind a variable is sought from some place on
+pub record IsSought (var : ℕ) (runs : List RankRun) (place : ℕ) : Type 0 where
+  pub ahead : EndsBehind var (drop place runs)
+  pub found : (more : ℕ) → IsPlaceOf var (drop place runs) more → IsPlaceOf var runs (place + more)
+
+pub IsSought-first : (var : ℕ) (runs : List RankRun) → EndsBehind var runs → IsSought var runs 0
+IsSought-first var runs e = record { ahead = e; found = λ more p. subst (IsPlaceOf var runs) (omega arith) p }
+
+pub sought_inside : (var : ℕ) (runs : List RankRun) (place : ℕ) → IsSought var runs place → place < length runs
+sought_inside var runs place s = ⊎_elim (λ l. l) (λ g. absurd (nothing (grind (arith, common_steps)) s.ahead)) (cases_lt place (length runs))
+  where
+    nothing : drop place runs ≡ [] → EndsBehind var (drop place runs) → ⊥
+    nothing e a = subst (EndsBehind var) e a
+
+pub IsSought-next : (var : ℕ) (runs : List RankRun) (place : ℕ) (run : RankRun) → run ≡ get_or runs place run → run.end ≤ var → IsSought var runs place → IsSought var runs (place + 1)
+IsSought-next var runs place run e past s =
+    let split = drop_head runs place run (sought_inside var runs place s) e in
+    record {
+      ahead = ⊎_elim (λ l. absurd (omega arith)) (λ later. later) (subst (EndsBehind var) split s.ahead);
+      found = λ more p. subst (IsPlaceOf var runs) (omega arith) (s.found (suc more) (subst (λ l. IsPlaceOf var l (suc more)) (sym split) (past, p)));
+    }
+
+pub IsPlaceOf-found : (var : ℕ) (runs : List RankRun) (place : ℕ) (run : RankRun) → run ≡ get_or runs place run → var < run.end → IsSought var runs place → IsPlaceOf var runs place
+IsPlaceOf-found var runs place run e behind s =
+    let split = drop_head runs place run (sought_inside var runs place s) e in
+    subst (IsPlaceOf var runs) (omega arith) (s.found 0 (subst (λ l. IsPlaceOf var l 0) (sym split) behind))
+
+-- runs at the first of their variables that waits are the same runs
+IsRankRun-moved : (ranks : List ℕ) (waiting : List Bool) (first : ℕ) (run moved : RankRun) → IsMovedOn waiting run moved → IsRankRun ranks waiting first run → IsRankRun ranks waiting first moved
+IsRankRun-moved ranks waiting first run moved m r =
+    let f = r.from in
+    let a = m.next.from in
+    let b = m.next.upto r.upto in
+    let e = m.end in
+    record {
+      from = omega arith;
+      upto = omega arith;
+      ranked = λ var c d. r.ranked var c (omega arith) ∙ sym m.rank;
+      passed = λ var c d. ⊎_elim (λ l. r.passed var c l) (λ g. m.next.passed var g d) (cases_lt var run.next);
+    }
+
+AreRuns-moved : (ranks : List ℕ) (waiting : List Bool) (first last : ℕ) (runs moved : List RankRun) → AllZip (IsMovedOn waiting) runs moved → AreRuns ranks waiting first last runs → AreRuns ranks waiting first last moved
+AreRuns-moved ranks waiting first last [] [] m r = r
+AreRuns-moved ranks waiting first last [] (other ∷ moved) m r = absurd m
+AreRuns-moved ranks waiting first last (run ∷ runs) [] m r = absurd m
+AreRuns-moved ranks waiting first last (run ∷ runs) (other ∷ moved) m r = (
+  IsRankRun-moved ranks waiting first run other m.0 r.0,
+  AreRuns-moved ranks waiting other.end last runs moved m.1 (subst (λ end. AreRuns ranks waiting end last runs) (sym m.0.end) r.1),
+)
+
+WaitsNext-moved : (waiting : List Bool) (runs moved : List RankRun) → AllZip (IsMovedOn waiting) runs moved → AllByRecursion (WaitsNext waiting) moved
+WaitsNext-moved waiting [] [] m = tt
+WaitsNext-moved waiting [] (other ∷ moved) m = absurd m
+WaitsNext-moved waiting (run ∷ runs) [] m = absurd m
+WaitsNext-moved waiting (run ∷ runs) (other ∷ moved) m = ((λ n. m.0.next.waits_now (let e = m.0.end in omega arith)), WaitsNext-moved waiting runs moved m.1)
+
+pub IsQueue-moved : (ranks : List ℕ) (waiting : List Bool) (runs moved : List RankRun) → AllZip (IsMovedOn waiting) runs moved → IsQueue ranks waiting runs → IsQueue ranks waiting moved
+IsQueue-moved ranks waiting runs moved m q = record { same = q.same; all = AreRuns-moved ranks waiting 0 (length ranks) runs moved m q.all }
+
+-- one more of a list has been replaced
+pub one_more_replaced : (R : RankRun → RankRun → Type 0) (before runs done : List RankRun) (place : ℕ) (old new : RankRun) → place < length before → runs ≡ done ++ drop place before → AllZip R (take place before) done → old ≡ get_or runs place old → R old new →
+    (slice_set runs place new ≡ (done ++ new ∷ []) ++ drop (place + 1) before) × AllZip R (take (place + 1) before) (done ++ new ∷ [])
+one_more_replaced R before runs done place old new k h z is r =
+    let long : length done ≡ place = sym (length_all_zip R (take place before) done z) ∙ omega (arith, length-take place before) in
+    let parts : runs ≡ done ++ get_or before place old ∷ drop (place + 1) before = h ∙ ap (λ l. done ++ l) (drop_more before place old k) in
+    let read : old ≡ get_or before place old = is ∙ ap (λ l. get_or l place old) parts ∙ get_or_at done _ _ old place long in (
+      ap (λ l. slice_set l place new) parts ∙ set_at done _ _ new place long ∙ sym (append_assoc done (new ∷ []) _),
+      all_zip_more R before done place old new k read z r,
+    )
+
+pub all_replaced : (R : RankRun → RankRun → Type 0) (before runs done : List RankRun) (place : ℕ) → length before ≤ place → runs ≡ done ++ drop place before → AllZip R (take place before) done → AllZip R before runs
+all_replaced R before runs done place k h z =
+    let whole : take place before ≡ before = grind (arith, common_steps) in
+    let none : runs ≡ done = let e : drop place before ≡ [] = grind (arith, common_steps) in h ∙ ap (λ l. done ++ l) e ∙ grind (arith, common_steps) in
+    subst (AllZip R before) (sym none) (subst (λ l. AllZip R l done) whole z)
 
 -- one is taken
 pub IsQueue-take : (ranks : List ℕ) (waiting : List Bool) (runs : List RankRun) (var : ℕ) → IsQueue ranks waiting runs → IsQueue ranks (slice_set waiting var false) runs
@@ -198,16 +224,6 @@ IsQueue-take ranks waiting runs var q =
       same = grind (arith, common_steps);
       all = AreRuns-kept ranks ranks waiting (slice_set waiting var false) 0 (length ranks) runs (λ other b. refl) (λ other a b h. grind (arith, common_steps)) q.all;
     }
-
--- of the variables before the last the best that waits
-abbrev IsBest : List ℕ → List Bool → ℕ → Option RankRun → Type 0
-IsBest ranks waiting last None = (other : ℕ) → other < last → waits waiting other ≡ false
-IsBest ranks waiting last (Some run) = (run.next < last) × (waits waiting run.next ≡ true) × (rank_of ranks run.next ≡ run.rank) ×
-    ((other : ℕ) → other < last → waits waiting other ≡ true → ComesFirst run.next run.rank other (rank_of ranks other))
-
--- each run either has a next one that waits, or is passed whole
-abbrev IsMoved : List Bool → RankRun → Type 0
-IsMoved waiting run = run.next < run.end → waits waiting run.next ≡ true
 
 none_in : (ranks : List ℕ) (waiting : List Bool) (first : ℕ) (run : RankRun) → IsRankRun ranks waiting first run → run.end ≤ run.next → (other : ℕ) → first ≤ other → other < run.end → waits waiting other ≡ false
 none_in ranks waiting first run r e other a b = r.passed other a (omega arith)
@@ -231,46 +247,65 @@ of_run ranks waiting first run r n on before = (
       (cases_lt other first),
 )
 
-IsBest-better : (ranks : List ℕ) (waiting : List Bool) (first : ℕ) (best : Option RankRun) (run : RankRun) → IsRankRun ranks waiting first run → IsMoved waiting run → IsBest ranks waiting first best → IsBest ranks waiting run.end (better_run best run)
-IsBest-better ranks waiting first None run r m k = by (ltb run.next run.end) refl
-  where
-    by : (t : Bool) → ltb run.next run.end ≡ t → IsBest ranks waiting run.end (cond t (Some run) None)
-    by true t = let n = ltb-true run.next run.end t in of_run ranks waiting first run r n (m n) (λ other l w. absurd (not_both waiting other w (k other l)))
-    by false t = λ other b. ⊎_elim (λ l. k other l) (λ g. none_in ranks waiting first run r (ltb-false run.next run.end t) other g b) (cases_lt other first)
-IsBest-better ranks waiting first (Some best) run r m k = by (ltb run.next run.end) refl
-  where
-    kept : ((other : ℕ) → first ≤ other → other < run.end → waits waiting other ≡ true → ComesFirst best.next best.rank other (rank_of ranks other)) → IsBest ranks waiting run.end (Some best)
-    kept later = let u = r.upto in let f = r.from in let b = k.0 in (omega arith, k.1, k.2, λ other c w. ⊎_elim (λ l. k.3 other l w) (λ g. later other g c w) (cases_lt other first))
+-- a best run stays the best where those that wait in one more run come behind it
+stays_best : (ranks : List ℕ) (waiting : List Bool) (first : ℕ) (best run : RankRun) → IsRankRun ranks waiting first run → IsBest ranks waiting first (Some best) →
+    ((other : ℕ) → first ≤ other → other < run.end → waits waiting other ≡ true → ComesFirst best.next best.rank other (rank_of ranks other)) → IsBest ranks waiting run.end (Some best)
+stays_best ranks waiting first best run r k later = let u = r.upto in let f = r.from in let b = k.0 in (omega arith, k.1, k.2, λ other c w. ⊎_elim (λ l. k.3 other l w) (λ g. later other g c w) (cases_lt other first))
 
-    rank : (t : Bool) → ltb best.rank run.rank ≡ t → run.next < run.end → IsBest ranks waiting run.end (cond t (Some run) (Some best))
-    rank true t n = let a = ltb-true best.rank run.rank t in of_run ranks waiting first run r n (m n) (λ other l w. ⊎_elim (λ x. inl (omega arith)) (λ x. let e = x.0 in inl (omega arith)) (k.3 other l w))
-    rank false t n = let a = ltb-false best.rank run.rank t in let b = k.0 in kept (λ other g c w. let e = r.ranked other g c in ⊎_elim
-        (λ l. inl (omega arith))
-        (λ h. ⊎_elim (λ s. inr (e ∙ s, omega arith)) (λ s. inl (⊎_elim (λ x. omega arith) (λ x. absurd (omega arith)) s)) (cases_order run.rank best.rank))
-        (cases_lt run.rank best.rank))
+pub IsBest-past : (best : Option RankRun) (run : RankRun) → run.end ≤ run.next → (ranks : List ℕ) (waiting : List Bool) (first : ℕ) → IsRankRun ranks waiting first run → IsBest ranks waiting first best → IsBest ranks waiting run.end best
+IsBest-past None run p ranks waiting first r k = λ other b. ⊎_elim (λ l. k other l) (λ g. none_in ranks waiting first run r p other g b) (cases_lt other first)
+IsBest-past (Some best) run p ranks waiting first r k = stays_best ranks waiting first best run r k (λ other g c w. absurd (not_both waiting other w (none_in ranks waiting first run r p other g c)))
 
-    by : (t : Bool) → ltb run.next run.end ≡ t → IsBest ranks waiting run.end (cond t (cond (ltb best.rank run.rank) (Some run) (Some best)) (Some best))
-    by true t = rank (ltb best.rank run.rank) refl (ltb-true run.next run.end t)
-    by false t = kept (λ other g c w. absurd (not_both waiting other w (none_in ranks waiting first run r (ltb-false run.next run.end t) other g c)))
+pub IsBest-kept : (best run : RankRun) → run.rank ≤ best.rank → (ranks : List ℕ) (waiting : List Bool) (first : ℕ) → IsRankRun ranks waiting first run → IsBest ranks waiting first (Some best) → IsBest ranks waiting run.end (Some best)
+IsBest-kept best run a ranks waiting first r k = let b = k.0 in stays_best ranks waiting first best run r k (λ other g c w. let e = r.ranked other g c in ⊎_elim
+    (λ l. inl (omega arith))
+    (λ h. ⊎_elim (λ s. inr (e ∙ s, omega arith)) (λ s. inl (⊎_elim (λ x. omega arith) (λ x. absurd (omega arith)) s)) (cases_order run.rank best.rank))
+    (cases_lt run.rank best.rank))
 
-IsBest-all : (ranks : List ℕ) (waiting : List Bool) (first last : ℕ) (best : Option RankRun) (runs : List RankRun) → AreRuns ranks waiting first last runs → IsBest ranks waiting first best → IsBest ranks waiting last (best_run best (map (moved_on waiting) runs))
-IsBest-all ranks waiting first last best [] r k = subst (λ n. IsBest ranks waiting n best) r k
-IsBest-all ranks waiting first last best (run ∷ runs) r k =
-    let u = r.0.upto in
-    let moved = AreRuns-moved_on ranks waiting first last (run ∷ runs) r in
-    IsBest-all ranks waiting run.end last (better_run best (moved_on waiting run)) runs r.1
-    (IsBest-better ranks waiting first best (moved_on waiting run) moved.0 (λ n. first_waits waiting run.next (run.end - run.next) (omega arith)) k)
+pub IsBest-taken : (best : Option RankRun) (run : RankRun) → run.next < run.end → ((kept : RankRun) → best ≡ Some kept → kept.rank < run.rank) → (ranks : List ℕ) (waiting : List Bool) (first : ℕ) → IsRankRun ranks waiting first run → WaitsNext waiting run →
+    IsBest ranks waiting first best → IsBest ranks waiting run.end (Some run)
+IsBest-taken None run n less ranks waiting first r m k = of_run ranks waiting first run r n (m n) (λ other l w. absurd (not_both waiting other w (k other l)))
+IsBest-taken (Some best) run n less ranks waiting first r m k =
+    let a = less best refl in
+    of_run ranks waiting first run r n (m n) (λ other l w. ⊎_elim (λ x. inl (omega arith)) (λ x. let e = x.0 in inl (omega arith)) (k.3 other l w))
 
-best_known : (ranks : List ℕ) (waiting : List Bool) (runs : List RankRun) → IsQueue ranks waiting runs → IsBest ranks waiting (length ranks) (best_run None (map (moved_on waiting) runs))
-best_known ranks waiting runs q = IsBest-all ranks waiting 0 (length ranks) None runs q.all (λ other l. absurd (omega arith))
+-- the best of the runs before a place
+abbrev pub IsBestBefore : List RankRun → ℕ → Option RankRun → Type 0
+IsBestBefore runs place best = (ranks : List ℕ) (waiting : List Bool) (last : ℕ) → AreRuns ranks waiting 0 last runs → AllByRecursion (WaitsNext waiting) runs →
+    (first : ℕ) × IsBest ranks waiting first best × AreRuns ranks waiting first last (drop place runs) × AllByRecursion (WaitsNext waiting) (drop place runs)
+
+pub IsBestBefore-first : (runs : List RankRun) → IsBestBefore runs 0 None
+IsBestBefore-first runs ranks waiting last r w = (0, (λ other l. absurd (omega arith)), r, w)
+
+pub IsBestBefore-next : (runs : List RankRun) (place : ℕ) (run : RankRun) (best better : Option RankRun) → place < length runs → run ≡ get_or runs place run →
+    ((ranks : List ℕ) (waiting : List Bool) (first : ℕ) → IsRankRun ranks waiting first run → WaitsNext waiting run → IsBest ranks waiting first best → IsBest ranks waiting run.end better) → IsBestBefore runs place best → IsBestBefore runs (place + 1) better
+IsBestBefore-next runs place run best better k e goes b ranks waiting last r w =
+    let before = b ranks waiting last r w in
+    let split = drop_head runs place run k e in
+    let parts = subst (AreRuns ranks waiting before.0 last) split before.2 in
+    let wait = subst (AllByRecursion (WaitsNext waiting)) split before.3 in
+    (run.end, goes ranks waiting before.0 parts.0 wait.0 before.1, parts.1, wait.1)
+
+pub IsBestBefore-all : (runs : List RankRun) (place : ℕ) (best : Option RankRun) → length runs ≤ place → IsBestBefore runs place best → (ranks : List ℕ) (waiting : List Bool) (last : ℕ) → AreRuns ranks waiting 0 last runs → AllByRecursion (WaitsNext waiting) runs →
+    IsBest ranks waiting last best
+IsBestBefore-all runs place best k b ranks waiting last r w =
+    let before = b ranks waiting last r w in
+    let none : drop place runs ≡ [] = grind (arith, common_steps) in
+    let end : before.0 ≡ last = subst (AreRuns ranks waiting before.0 last) none before.2 in
+    subst (λ n. IsBest ranks waiting n best) end before.1
 
 below : (waiting : List Bool) (other : ℕ) → waits waiting other ≡ true → other < length waiting
 below waiting other on = grind (arith, common_steps)
 
+-- the best run of a queue that is moved on
+pub best_of_queue : (ranks : List ℕ) (waiting : List Bool) (runs moved read : List RankRun) (best : Option RankRun) → AllZip (IsMovedOn waiting) runs moved → IsQueue ranks waiting runs → read ≡ moved →
+    ((ranks : List ℕ) (waiting : List Bool) (last : ℕ) → AreRuns ranks waiting 0 last read → AllByRecursion (WaitsNext waiting) read → IsBest ranks waiting last best) → IsBest ranks waiting (length ranks) best
+best_of_queue ranks waiting runs moved read best m q e goes =
+    goes ranks waiting (length ranks) (subst (AreRuns ranks waiting 0 (length ranks)) (sym e) (AreRuns-moved ranks waiting 0 (length ranks) runs moved m q.all)) (subst (AllByRecursion (WaitsNext waiting)) (sym e) (WaitsNext-moved waiting runs moved m))
+
 -- the best that waits comes first of all
-pub best_is_next : (ranks : List ℕ) (waiting : List Bool) (runs : List RankRun) (run : RankRun) → IsQueue ranks waiting runs → Some run ≡ best_run None (map (moved_on waiting) runs) → IsNext ranks waiting run.next
-best_is_next ranks waiting runs run q e =
-    let k : IsBest ranks waiting (length ranks) (Some run) = subst (λ b. IsBest ranks waiting (length ranks) b) (sym e) (best_known ranks waiting runs q) in
+pub best_is_next : (ranks : List ℕ) (waiting : List Bool) (runs : List RankRun) (run : RankRun) → IsQueue ranks waiting runs → IsBest ranks waiting (length ranks) (Some run) → IsNext ranks waiting run.next
+best_is_next ranks waiting runs run q k =
     let same = q.same in
     let a = k.0 in
     record {
@@ -280,54 +315,24 @@ best_is_next ranks waiting runs run q e =
     }
 
 -- without a best one none waits
-pub none_waits : (ranks : List ℕ) (waiting : List Bool) (runs : List RankRun) → IsQueue ranks waiting runs → None ≡ best_run None (map (moved_on waiting) runs) → NoneWaits waiting
-none_waits ranks waiting runs q e var =
-    let k : IsBest ranks waiting (length ranks) None = subst (λ b. IsBest ranks waiting (length ranks) b) (sym e) (best_known ranks waiting runs q) in
+pub none_waits : (ranks : List ℕ) (waiting : List Bool) (runs : List RankRun) → IsQueue ranks waiting runs → IsBest ranks waiting (length ranks) None → NoneWaits waiting
+none_waits ranks waiting runs q k var =
     let same = q.same in
     ⊎_elim (λ l. k var (omega arith)) (λ g. past waiting var (omega arith)) (cases_lt var (length waiting))
   where
     past : (waiting : List Bool) (var : ℕ) → length waiting ≤ var → waits waiting var ≡ false
     past waiting var h = grind (arith, common_steps)
 
-drop_head : (runs : List RankRun) (place : ℕ) (run : RankRun) → place < length runs → run ≡ get_or runs place run → drop place runs ≡ run ∷ drop (place + 1) runs
-drop_head runs place run k e = grind (arith, common_steps)
-
--- what the loops keep
-pub best_more : (best better : Option RankRun) (runs : List RankRun) (place : ℕ) (run : RankRun) (all : Option RankRun) → place < length runs → run ≡ get_or runs place run → better ≡ better_run best run → best_run best (drop place runs) ≡ all → best_run better (drop (place + 1) runs) ≡ all
-best_more best better runs place run all k e f h = rw f (sym (ap (best_run best) (drop_head runs place run k e)) ∙ h)
-
-pub best_past : (best : Option RankRun) (runs : List RankRun) (place : ℕ) (all : Option RankRun) → length runs ≤ place → best_run best (drop place runs) ≡ all → best ≡ all
-best_past best runs place all k h = let e : drop place runs ≡ [] = grind (arith, common_steps) in sym (ap (best_run best) e) ∙ h
-
--- the last run becomes longer, or another one comes behind it
-pub longer_by_same : (runs : List RankRun) (place : ℕ) (run : RankRun) (rank var : ℕ) → length runs ≡ suc place → run ≡ get_or runs place run → run.rank ≡ rank → slice_set runs place (record { rank = run.rank; next = run.next; end = var + 1 }) ≡ lengthened runs rank var
-longer_by_same [] place run rank var k e f = absurd (let z : 0 ≡ suc place = k in omega arith)
-longer_by_same (head ∷ []) zero run rank var k e f = let o : run ≡ head = e in let t : eqb head.rank rank ≡ true = eq-eqb head.rank rank (ap (λ (r : RankRun). r.rank) (sym o) ∙ f) in rw (o, t) refl
-longer_by_same (head ∷ []) (suc place) run rank var k e f = absurd (let z : 1 ≡ suc (suc place) = k in omega arith)
-longer_by_same (head ∷ other ∷ runs) zero run rank var k e f = absurd (let z : suc (suc (length runs)) ≡ 1 = k in omega arith)
-longer_by_same (head ∷ other ∷ runs) (suc place) run rank var k e f =
-    let z : suc (suc (length runs)) ≡ suc (suc place) = k in
-    ap (λ rest. head ∷ rest) (longer_by_same (other ∷ runs) place run rank var (let y : suc (length runs) ≡ suc place = omega arith in y) e f)
-
-pub longer_by_other : (runs : List RankRun) (rank var : ℕ) → ((place : ℕ) (run : RankRun) → length runs ≡ suc place → run ≡ get_or runs place run → run.rank ≡ rank → ⊥) → lengthened runs rank var ≡ runs ++ record { rank = rank; next = var; end = var + 1 } ∷ []
-longer_by_other [] rank var other = refl
-longer_by_other (head ∷ []) rank var other = let t : eqb head.rank rank ≡ false = ne_eqb head.rank rank (other 0 head refl refl) in rw t refl
-longer_by_other (head ∷ next ∷ runs) rank var other = ap (λ rest. head ∷ rest) (longer_by_other (next ∷ runs) rank var (λ place run k e. other (suc place) run (ap suc k) e))
-
 -- what is written back to a vector
 pub written_back : (new old : List RankRun) (count : ℕ) → length new ≡ length old → count ≡ length old → take count (new ++ drop (length new) old) ≡ new
 written_back new old count e f = grind (arith, common_steps)
 
--- a run is moved on by one more that doesn't wait
-pub passed_one : (waiting : List Bool) (var next end all : ℕ) → var < end → waits waiting var ≡ false → first_waiting waiting var (end - var) ≡ all → first_waiting waiting (var + 1) (end - (var + 1)) ≡ all
-passed_one waiting var next end all b off h =
-    let e : end - (var + 1) ≡ end - var - 1 = omega arith in
-    rw e (sym (first_later waiting var (end - var) (omega arith) off) ∙ h)
+-- the runs of a queue, moved on and written back
+pub moved_back : (waiting seen : List Bool) (runs read moved : List RankRun) (count : ℕ) → seen ≡ waiting → read ≡ runs → AllZip (IsMovedOn seen) read moved → length moved ≡ length read → length read ≡ count →
+    AllZip (IsMovedOn waiting) runs (take count (moved ++ drop (length moved) runs))
+moved_back waiting seen runs read moved count e f g k h =
+    subst (AllZip (IsMovedOn waiting) runs) (sym (written_back moved runs count (k ∙ ap length f) (sym h ∙ ap length f)))
+    (subst (λ w. AllZip (IsMovedOn w) runs moved) e (subst (λ l. AllZip (IsMovedOn seen) l moved) f g))
 
 pub run_at : (runs : List RankRun) (place : ℕ) (run : RankRun) → place < length runs → get_or runs place run ≡ get_or runs place (get_or runs place run)
 run_at runs place run k = grind (arith, common_steps)
-
--- the runs of a queue, moved on
-pub moved_back : (waiting seen : List Bool) (runs read moved : List RankRun) (count : ℕ) → seen ≡ waiting → read ≡ runs → moved ≡ map (moved_on seen) read → length moved ≡ length read → length read ≡ count → take count (moved ++ drop (length moved) runs) ≡ map (moved_on waiting) runs
-moved_back waiting seen runs read moved count e f g k h =
-    written_back moved runs count (k ∙ ap length f) (sym h ∙ ap length f) ∙ (g ∙ ap (λ w. map (moved_on w) read) e ∙ ap (map (moved_on waiting)) f)

@@ -1,7 +1,7 @@
 -- Variables in runs of equal rank, one run after another, each with a place before which none of its variables waits.
-use Rattle.std.specs.Prelude.{◌≡◌, ℕ, zero, suc, ◌+◌, ◌-◌, ◌<◌, ◌≤◌, Bool, false, List, [], ◌∷◌, Option, Some, None, length, min, nat_lt, ◌==◌, if◌then◌else◌}
+use Rattle.std.specs.Prelude.{◌≡◌, ℕ, zero, suc, ◌+◌, ◌<◌, ◌≤◌, ◌⊎◌, Bool, false, true, List, [], ◌∷◌, Option, Some, None, length, slice_set}
 use Rattle.sat_order.specs.declared.queue.RankRun.{RankRun}
-use Rattle.sat_order.specs.Waiting.{rank_of, waits}
+use Rattle.sat_order.specs.Waiting.{rank_of, waits, ComesFirst}
 
 -- the ranks of the variables so far, whether each waits, and for how many more there is room
 pub record QueueState : Type 0 where
@@ -26,37 +26,44 @@ pub record IsQueue (ranks : List ℕ) (waiting : List Bool) (runs : List RankRun
   pub same : length waiting ≡ length ranks
   pub all : AreRuns ranks waiting 0 (length ranks) runs
 
--- runs with one more variable behind the others, which has a run of its own if the last run has another rank
-abbrev pub lengthened : List RankRun → ℕ → ℕ → List RankRun
-lengthened [] rank var = record { rank = rank; next = var; end = var + 1 } ∷ []
-lengthened (run ∷ []) rank var = if run.rank == rank then record run { end = var + 1 } ∷ [] else run ∷ record { rank = rank; next = var; end = var + 1 } ∷ []
-lengthened (run ∷ other ∷ runs) rank var = run ∷ lengthened (other ∷ runs) rank var
+-- wherever the runs before have the variables up to this one, which has this rank, the runs after have it too
+abbrev pub Lengthens : ℕ → ℕ → List RankRun → List RankRun → Type 0
+Lengthens rank var before after = (ranks : List ℕ) (waiting : List Bool) → rank_of ranks var ≡ rank → AreRuns ranks waiting 0 var before → AreRuns ranks waiting 0 (var + 1) after
 
--- the place of the first run that ends behind a variable
-abbrev pub run_place : ℕ → List RankRun → ℕ
-run_place var [] = 0
-run_place var (run ∷ runs) = if nat_lt var run.end then 0 else suc (run_place var runs)
+-- some run ends behind the variable
+abbrev pub EndsBehind : ℕ → List RankRun → Type 0
+EndsBehind var [] = ⊥
+EndsBehind var (run ∷ runs) = (var < run.end) ⊎ EndsBehind var runs
 
--- the first run that ends behind a variable goes on from there at the latest
-abbrev pub lowered : ℕ → List RankRun → List RankRun
-lowered var [] = []
-lowered var (run ∷ runs) = if nat_lt var run.end then record run { next = min run.next var } ∷ runs else run ∷ lowered var runs
+-- the place of the first run that ends behind the variable
+abbrev pub IsPlaceOf : ℕ → List RankRun → ℕ → Type 0
+IsPlaceOf var [] place = ⊥
+IsPlaceOf var (run ∷ runs) zero = var < run.end
+IsPlaceOf var (run ∷ runs) (suc place) = (run.end ≤ var) × IsPlaceOf var runs place
 
--- the first of so many variables that waits, or the one behind them
-abbrev pub first_waiting : List Bool → ℕ → ℕ → ℕ
-first_waiting waiting next zero = next
-first_waiting waiting next (suc count) = if waits waiting next then next else first_waiting waiting (suc next) count
+-- wherever the runs before have their variables, the runs after have them while this one waits besides
+abbrev pub LetsWait : ℕ → List RankRun → List RankRun → Type 0
+LetsWait var before after = (ranks : List ℕ) (waiting : List Bool) (last : ℕ) → var < last → AreRuns ranks waiting 0 last before → AreRuns ranks (slice_set waiting var true) 0 last after
 
--- a run at the first of its variables that waits
-abbrev pub moved_on : List Bool → RankRun → RankRun
-moved_on waiting run = record run { next = first_waiting waiting run.next (run.end - run.next) }
+-- the first variable from `next` on that waits, or the end where none before it does
+pub record IsFirstWaiting (waiting : List Bool) (next end var : ℕ) : Type 0 where
+  pub from : next ≤ var
+  pub upto : next ≤ end → var ≤ end
+  pub passed : (other : ℕ) → next ≤ other → other < var → waits waiting other ≡ false
+  pub waits_now : var < end → waits waiting var ≡ true
 
--- a run if it has a variable that waits and a greater rank than the best of those before it, which is kept otherwise
-abbrev pub better_run : Option RankRun → RankRun → Option RankRun
-better_run None run = if nat_lt run.next run.end then Some run else None
-better_run (Some best) run = if nat_lt run.next run.end then (if nat_lt best.rank run.rank then Some run else Some best) else Some best
+-- the same variables, from the first of them on that waits
+pub record IsMovedOn (waiting : List Bool) (run moved : RankRun) : Type 0 where
+  pub rank : moved.rank ≡ run.rank
+  pub end : moved.end ≡ run.end
+  pub next : IsFirstWaiting waiting run.next run.end moved.next
 
--- the best of some runs, and of one that may be known before them
-abbrev pub best_run : Option RankRun → List RankRun → Option RankRun
-best_run best [] = best
-best_run best (run ∷ runs) = best_run (better_run best run) runs
+-- the next variable of a run waits, unless the run is passed whole
+abbrev pub WaitsNext : List Bool → RankRun → Type 0
+WaitsNext waiting run = run.next < run.end → waits waiting run.next ≡ true
+
+-- the next variable of the run comes first of those before the last that wait; without a run none of them waits
+abbrev pub IsBest : List ℕ → List Bool → ℕ → Option RankRun → Type 0
+IsBest ranks waiting last None = (other : ℕ) → other < last → waits waiting other ≡ false
+IsBest ranks waiting last (Some run) = (run.next < last) × (waits waiting run.next ≡ true) × (rank_of ranks run.next ≡ run.rank) ×
+    ((other : ℕ) → other < last → waits waiting other ≡ true → ComesFirst run.next run.rank other (rank_of ranks other))

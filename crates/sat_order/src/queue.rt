@@ -1,8 +1,9 @@
 // Variables in runs of equal rank, each with a place before which none waits.
-ghost use Rattle.std.specs.Prelude.{◌≡◌, ◌<◌, ◌≤◌, ◌+◌, ◌-◌, ◌++◌, ◌∷◌, [], None, true, false, length, map, max, slice_set, vec_len, vec_capacity, OnOk, OnErr, IfSome, IfNone};
+ghost use Rattle.std.specs.Prelude.{◌≡◌, ◌<◌, ◌≤◌, ◌+◌, ◌++◌, ◌∷◌, ℕ, Bool, List, [], true, false, length, max, slice_set, vec_len, vec_capacity, OnOk, OnErr, IfSome, IfNone};
+ghost use Rattle.std.specs.List.{AllByRecursion, AllZip};
 ghost use Rattle.des_base.specs.declared.TheConstants.{VAR_LIMIT};
 ghost use Rattle.sat_order.specs.Waiting.{IsNext, NoneWaits, waits};
-ghost use Rattle.sat_order.specs.Queue.{best_run, better_run, first_waiting, lengthened, lowered, moved_on, run_place};
+ghost use Rattle.sat_order.specs.Queue.{AreRuns, EndsBehind, IsBest, IsFirstWaiting, IsMovedOn, IsPlaceOf, IsRankRun, Lengthens, LetsWait, WaitsNext};
 
 use des_base::{Memory, VAR_LIMIT};
 use std::alloc::Global;
@@ -126,7 +127,7 @@ impl Queue {
 fn lengthen(runs: &mut Vec<RankRun>, rank: u64, var: u32)
     requires room { vec_len runs.old + 1 ≤ vec_capacity runs.old }
     requires limit { var < VAR_LIMIT }
-    ensures runs { runs.new.items ≡ lengthened runs.old.items rank var }
+    ensures runs { Lengthens rank var runs.old.items runs.new.items }
     ensures count { vec_len runs.new ≤ vec_len runs.old + 1 }
     ensures capacity { vec_capacity runs.old ≤ vec_capacity runs.new }
 {
@@ -145,8 +146,8 @@ fn lengthen(runs: &mut Vec<RankRun>, rank: u64, var: u32)
 
 // Lets the run of a variable go on from there at the latest.
 fn lower(runs: &mut [RankRun], var: u32)
-    requires { run_place var runs.old < length runs.old }
-    ensures { runs.new ≡ lowered var runs.old }
+    requires { EndsBehind var runs.old }
+    ensures { LetsWait var runs.old runs.new }
 {
     let place = place_of(runs, var);
     let next = runs[place].next.min(var);
@@ -155,8 +156,9 @@ fn lower(runs: &mut [RankRun], var: u32)
 
 // The place of the run that has a variable.
 fn place_of(runs: &[RankRun], var: u32) -> usize
-    requires { run_place var runs.now < length runs.now }
-    ensures { result ≡ run_place var runs.now }
+    requires { EndsBehind var runs.now }
+    ensures inside { result < length runs.now }
+    ensures place { IsPlaceOf var runs.now result }
 {
     let mut place = 0_usize;
     'on: while runs[place].end <= var {
@@ -167,7 +169,7 @@ fn place_of(runs: &[RankRun], var: u32) -> usize
 
 // Moves each run on to the first of its variables that waits.
 fn move_on(runs: &mut [RankRun], waiting: &[bool])
-    ensures { runs.new ≡ map (moved_on waiting.now) runs.old }
+    ensures { AllZip (IsMovedOn waiting.now) runs.old runs.new }
 {
     for run in runs.iter_mut() {
         *run = moved_on(*run, waiting);
@@ -176,7 +178,7 @@ fn move_on(runs: &mut [RankRun], waiting: &[bool])
 
 // A run at the first of its variables that waits.
 fn moved_on(run: RankRun, waiting: &[bool]) -> RankRun
-    ensures { result ≡ moved_on waiting.now run }
+    ensures { IsMovedOn waiting.now run result }
 {
     RankRun {
         rank: run.rank,
@@ -187,7 +189,7 @@ fn moved_on(run: RankRun, waiting: &[bool]) -> RankRun
 
 // The first variable that waits, from `next` on and before the end, or the end.
 fn first_waiting(waiting: &[bool], next: u32, end: u32) -> u32
-    ensures { result ≡ first_waiting waiting.now next (end - next) }
+    ensures { IsFirstWaiting waiting.now next end result }
 {
     let mut var = next;
     'on: while var < end && !waits(waiting, var) {
@@ -208,7 +210,7 @@ fn waits(waiting: &[bool], var: u32) -> bool
 
 // Of the runs in which a variable waits, the first with the greatest rank.
 fn best(runs: &[RankRun]) -> Option<RankRun>
-    ensures { result ≡ best_run None runs.now }
+    ensures { (ranks : List ℕ) (waiting : List Bool) (last : ℕ) → AreRuns ranks waiting 0 last runs.now → AllByRecursion (WaitsNext waiting) runs.now → IsBest ranks waiting last result }
 {
     let mut best: Option<RankRun> = None;
     for run in runs {
@@ -219,7 +221,7 @@ fn best(runs: &[RankRun]) -> Option<RankRun>
 
 // A run if a variable waits in it, and it has a greater rank than the best of those before it, which is kept otherwise.
 fn better(best: Option<RankRun>, run: RankRun) -> Option<RankRun>
-    ensures { result ≡ better_run best run }
+    ensures { (ranks : List ℕ) (waiting : List Bool) (first : ℕ) → IsRankRun ranks waiting first run → WaitsNext waiting run → IsBest ranks waiting first best → IsBest ranks waiting run.end result }
 {
     if run.next >= run.end {
         return best;

@@ -13,7 +13,7 @@ invariant_of-self c =
     let wide : vec_len c.push-2.new.self ≡ vec_len c.self.inside.waiting + 1 = let a = c.push-2.ensures.len in let o = c.unwrap-2.ensures in grind (arith, common_steps) in
     let some : 1 ≤ c.self.inside.spare = subst (λ (s : QueueState). 1 ≤ s.spare) (sym c.self.view_is) c.requires.room in
     record {
-      queue = rw (ranks, waiting, c.lengthen.ensures.runs) (IsQueue-add c.self.inside.ranks.items c.self.inside.waiting.items c.self.inside.runs.items c.args.rank c.len-var.result c.self.invariant.queue (let e = c.len-var.ensures in grind (arith, common_steps)));
+      queue = rw (ranks, waiting) (IsQueue-add c.self.inside.ranks.items c.self.inside.waiting.items c.self.inside.runs.items c.args.rank c.len-var.result _ c.self.invariant.queue (let e = c.len-var.ensures in grind (arith, common_steps)) c.lengthen.ensures.runs);
       ranks = let a = c.self.invariant.ranks in let b = c.push.ensures.capacity in omega arith;
       waiting = let a = c.self.invariant.waiting in let b = c.push-2.ensures.capacity in omega arith;
       runs = let a = c.self.invariant.runs in let b = c.lengthen.ensures.count in let d = c.lengthen.ensures.capacity in omega arith;
