@@ -8,7 +8,6 @@ use Rattle.alarm_session.specs.declared.refusal.SessionRefusal.TheVariants.{Doub
 use Rattle.des_net.specs.Models.{masked, pump}
 use Rattle.least_faults.specs.Columns.{columns_built}
 use Rattle.question_clauses.specs.Additions.{pair_added}
-use Rattle.log_csv.specs.Reading.{refusal_code}
 use Rattle.log_csv.specs.declared.row.Row.{Row}
 use Rattle.log_csv.specs.declared.row.Row.TheVariants.{Alarm, Maybe, Before, Ask}
 use Rattle.log_order.specs.Adding.{alarm_refusal, before_refusal}
@@ -16,6 +15,7 @@ use Rattle.log_order.specs.Log.{Log, a_log, an_alarm, no_log}
 use Rattle.log_order.specs.declared.refusal.LogRefusal.{LogRefusal}
 use Rattle.log_order.specs.declared.refusal.LogRefusal.TheVariants as of_log
 use Rattle.run_decode.specs.QuestionAxioms.{added_built, question_built}
+use Rattle.log_csv.proofs.LogLemmas.{refusal_code}
 
 -- the refusals of a log have the numbers that they have in its text
 pub same_codes : (refusal : LogRefusal) → refusal_number (refusal_of refusal) ≡ refusal_code refusal

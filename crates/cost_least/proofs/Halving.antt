@@ -1,6 +1,6 @@
 -- The search by halving: what it has come to, and where it ends.
 use Rattle.std.proofs.Common.{◌≡◌, ◌⊎◌, inl, inr, ℕ, suc, ◌+◌, ◌-◌, ◌<◌, ◌≤◌, List, [], ◌∷◌, ◌++◌, Option, None, Some, sym, ap, subst, arith, Contains, append-nil}
-use Rattle.std.specs.Prelude.{min}
+use Rattle.std.specs.Prelude.{min, count_by}
 use Rattle.std.specs.List.{AllByRecursion}
 use Rattle.std.proofs.lemmas.Bool.{cases_lt}
 use Rattle.std.proofs.lemmas.List.Elements.{Contains-append_cases, Contains-append_right, recursion_from_All}
@@ -9,7 +9,7 @@ use Rattle.des_base.proofs.Elements.{cons_cases, none_in_nil}
 use Rattle.event_costs.specs.declared.TheConstants.{MOST_COST}
 use Rattle.sat_solve.proofs.Leaving.{no_more, searching_further, searching_none, each_both, each_none, last_later, last_before, finals_before, closed_counted, closed_each, closed_last}
 use Rattle.least_faults.proofs.Entailing.{final_entailed}
-use Rattle.sat_solve.specs.Leaving.{PutsNoFinal, HasFinal, HasLastFinal, EachFinal}
+use Rattle.sat_solve.specs.Leaving.{PutsNoFinal, HasFinal, HasLastFinal, EachFinal, IsSearching}
 use Rattle.least_faults.specs.Evidence.{is_final}
 use Rattle.question_clauses.proofs.Lists.{all_at}
 use Rattle.log_encode.specs.CodedLog.{CodedLog, log_guards}
@@ -28,13 +28,28 @@ use Rattle.cost_least.proofs.Finding.{found_by}
 use Rattle.cost_least.specs.Answers.{CostAsked, NegatesCost, PoseCostQuestion, IsPriced, Needs, IsHalfway, IsCostEvidence}
 use Rattle.cost_least.specs.Asking.{HasAskedCost}
 use Rattle.cost_least.specs.Pricing.{ExplainsAt}
-use Rattle.cost_least.specs.Searching.{NegatesTotalBelow, HasHalved, HasFoundCost, HasRefusedCosts}
+use Rattle.cost_least.specs.Searching.{HasFoundCost, HasRefusedCosts}
 use Rattle.cost_least.specs.Weighed.{assumed_at}
 use Rattle.answers.specs.declared.cheap.Cheap.TheVariants.{Found, Dear, Undecided}
 use Rattle.answers.specs.declared.cheap.Priced.{Priced}
 use Rattle.cost_least.specs.declared.asking.CostAnswer.TheVariants.{Explained, Refuted, Spent}
 use Rattle.prop_core.proofs.Negations.{NegatesLast, split_negates}
 use Rattle.sat_solve.proofs.Entries.{learnt_no_final, counted_both}
+
+-- the clause negates what is assumed for some total below lo
+abbrev pub NegatesTotalBelow : CodedLog → Scale → ℕ → Clause → Type 0
+NegatesTotalBelow code scale lo clause = (j : ℕ) × (j < lo) × NegatesOnly (assumed_at code scale (Some j)) clause
+
+-- What the search has come to: totals below lo are refuted, each by one final entry at most, the last of them by the last one, and a run of this total is known.
+pub record HasHalved (q : CostAsked) (code : CodedLog) (scale : Scale) (old new : List BookEntry) (budget_old budget_new lo : ℕ) (best : Priced) : Type 0 where
+  pub searching : IsSearching old new budget_old budget_new
+  pub finals : EachFinal (NegatesTotalBelow code scale lo) searching.since
+  pub few : count_by is_final searching.since ≤ lo
+  pub last : (b : ℕ) → lo ≡ suc b → HasLastFinal searching.since (assumed_at code scale (Some b))
+  pub needs : Needs q lo
+  pub reached : lo ≤ 1 + MOST_COST
+  pub given : IsPriced q best
+  pub counted : 0 < best.cost → 0 < scale.inputs
 
 -- literals of two amounts are not the same
 same_amount : (scale : Scale) (i j b : ℕ) → negative (place_variable scale i j) ≡ negative (place_variable scale i b) → j ≡ b

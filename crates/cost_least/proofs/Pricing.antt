@@ -15,9 +15,9 @@ use Rattle.prop_core.specs.NamedClauses.{Match, value_by, assignment_by}
 use Rattle.prop_core.specs.VariableNames.{Meaning, meaning_of, HasEachOnce}
 use Rattle.prop_core.specs.declared.lit.Lit.{Lit}
 use Rattle.run_decode.proofs.Assumptions.{is_guard}
-use Rattle.run_decode.proofs.Tells.{ridden_tells, same_property_told, consistent_by, unnamed, guards_true}
+use Rattle.run_decode.proofs.Tells.{ridden_tells, same_property_told, consistent_by, unnamed, guards_true, Rides}
 use Rattle.run_decode.specs.Faithful.{MakesTrue}
-use Rattle.run_decode.specs.Tells.{Tells, Rides}
+use Rattle.run_decode.specs.Tells.{Tells}
 use Rattle.cost_least.proofs.Drawing.{cost_names, drawn_unbounded, drawn_bounded}
 use Rattle.cost_least.proofs.Sums.{costs_are_weights}
 use Rattle.card_counter.specs.CounterState.{negative}

@@ -15,11 +15,11 @@ use Rattle.prop_core.specs.VariableNames.{ReadsAs}
 use Rattle.weight_counter.specs.declared.scale.Scale.{Scale}
 use Rattle.cost_least.proofs.Answering.{told, guards_before}
 use Rattle.cost_least.proofs.Finding.{asked_back, coded_back, found_absent, found_later, found_nothing, found_still, refused_still}
-use Rattle.cost_least.proofs.Halving.{halved_none, halved_quits, halved_better, halved_refuted, halved_spent, halved_cheapest, halved_dear, halved_undecided}
+use Rattle.cost_least.proofs.Halving.{halved_none, halved_quits, halved_better, halved_refuted, halved_spent, halved_cheapest, halved_dear, halved_undecided, HasHalved}
 use Rattle.cost_least.proofs.Weighed.{goes_both, goes_none}
 use Rattle.cost_least.specs.Answers.{CostAsked, PoseCostQuestion, IsPriced, IsHalfway, NegatesCost}
 use Rattle.cost_least.specs.Asking.{HasAskedCost}
-use Rattle.cost_least.specs.Searching.{AreAsked, GoesOnWeighed, HasFoundCost, HasHalved, HasRefusedCosts, MayBound, asked_of}
+use Rattle.cost_least.specs.Searching.{AreAsked, GoesOnWeighed, HasFoundCost, HasRefusedCosts, MayBound, asked_of}
 use Rattle.cost_least.specs.Weighed.{AreWeighed, AreWeighedParts, assumed_at}
 use Rattle.answers.specs.declared.cheap.Cheap.{Cheap}
 use Rattle.answers.specs.declared.cheap.Cheap.TheVariants.{Found, Absent, Dear, Undecided}

@@ -1,12 +1,10 @@
 -- A search by halving: what it has found when it asks, and what it needs.
-use Rattle.std.specs.Prelude.{◌≡◌, ◌⊎◌, ℕ, suc, ◌+◌, ◌<◌, ◌≤◌, Bool, List, [], ◌∷◌, ◌++◌, Option, Some, count_by}
+use Rattle.std.specs.Prelude.{◌≡◌, ◌⊎◌, ℕ, ◌+◌, ◌<◌, Bool, List, [], ◌∷◌, ◌++◌, Option}
 use Rattle.des_net.specs.Network.{Net}
 use Rattle.event_costs.specs.StoredCosts.{GivesCosts}
 use Rattle.event_costs.specs.declared.TheConstants.{MOST_COST}
-use Rattle.sat_solve.specs.Leaving.{IsSearching, HasLastFinal, EachFinal, PutsFinals, LeavesBare}
-use Rattle.least_faults.specs.Evidence.{is_final}
+use Rattle.sat_solve.specs.Leaving.{IsSearching, PutsFinals, LeavesBare}
 use Rattle.least_faults.specs.declared.parts.Parts.{Parts}
-use Rattle.log_encode.specs.CodedLog.{CodedLog}
 use Rattle.log_order.specs.Log.{Log}
 use Rattle.proof_ledger.specs.Book.{BookEntry, mark, axioms_of}
 use Rattle.prop_core.specs.Clauses.{Clause, NegatesOnly, value_in}
@@ -18,10 +16,9 @@ use Rattle.run_decode.specs.Decided.{Entails}
 use Rattle.sat_solve.specs.Searching.{IsAnswer, IsPutFor}
 use Rattle.sat_solve.specs.declared.answer.Answer.{Answer}
 use Rattle.cost_least.specs.Asking.{RulesOut}
-use Rattle.cost_least.specs.Answers.{CostAsked, PoseCostQuestion, IsPriced, Needs, IsCheapFound, HasConflictOf, IsCostAnswered, IsCostLeftOpen, NegatesCost}
-use Rattle.cost_least.specs.Weighed.{IsOneElsewhere, AreWeighed, AreWeighedParts, AreWeightedInputs, KeepsCode, assumed_at}
+use Rattle.cost_least.specs.Answers.{CostAsked, PoseCostQuestion, IsCheapFound, HasConflictOf, IsCostAnswered, IsCostLeftOpen, NegatesCost}
+use Rattle.cost_least.specs.Weighed.{IsOneElsewhere, AreWeighed, AreWeighedParts, AreWeightedInputs, KeepsCode}
 use Rattle.answers.specs.declared.cheap.Cheap.{Cheap}
-use Rattle.answers.specs.declared.cheap.Priced.{Priced}
 
 -- a total of at most b can be asked for: there is something to weigh, and b is an amount of the scale
 pub record MayBound (scale : Scale) (b : ℕ) : Type 0 where
@@ -58,21 +55,6 @@ pub record IsSolvedUnder (assumed : List Lit) (values : List Bool) (old new : Li
 -- it is what the true inputs weigh, whatever inputs the parts have with these costs
 abbrev pub IsTotalOf : {R : Type 0} → (ℕ → ℕ) → Parts R → ℕ → Type 0
 IsTotalOf cost parts total = (inputs : List Weighted) → AreWeightedInputs parts.step parts.code.coded cost inputs → total ≡ weight_true (value_in parts.solver.assignment) inputs
-
--- the clause negates what is assumed for some total below lo
-abbrev pub NegatesTotalBelow : CodedLog → Scale → ℕ → Clause → Type 0
-NegatesTotalBelow code scale lo clause = (j : ℕ) × (j < lo) × NegatesOnly (assumed_at code scale (Some j)) clause
-
--- What the search has come to: totals below lo are refuted, each by one final entry at most, the last of them by the last one, and a run of this total is known.
-pub record HasHalved (q : CostAsked) (code : CodedLog) (scale : Scale) (old new : List BookEntry) (budget_old budget_new lo : ℕ) (best : Priced) : Type 0 where
-  pub searching : IsSearching old new budget_old budget_new
-  pub finals : EachFinal (NegatesTotalBelow code scale lo) searching.since
-  pub few : count_by is_final searching.since ≤ lo
-  pub last : (b : ℕ) → lo ≡ suc b → HasLastFinal searching.since (assumed_at code scale (Some b))
-  pub needs : Needs q lo
-  pub reached : lo ≤ 1 + MOST_COST
-  pub given : IsPriced q best
-  pub counted : 0 < best.cost → 0 < scale.inputs
 
 -- The entries that were put show what was found, and no more clauses were learnt than the budget says, each of them fresh. Each final entry negates what is assumed for some total, or without one, and there is at most one for each total.
 pub record HasFoundCost (q : CostAsked) (budget : ℕ) (old new : List BookEntry) (answer : Cheap) : Type 0 where

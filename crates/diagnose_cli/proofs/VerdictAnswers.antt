@@ -2,7 +2,7 @@
 use Rattle.std.proofs.Common.{◌≡◌, inl, inr, ℕ, List, [], Result, Ok, Err, refl, ap}
 use Rattle.des_base.specs.Outside.{Output}
 use Rattle.des_net.specs.Network.{Net}
-use Rattle.log_order.specs.Log.{Log}
+use Rattle.log_order.specs.Log.{Log, Log as AlarmLog}
 use Rattle.proof_ledger.specs.Book.{BookEntry}
 use Rattle.telling.specs.declared.each.Broken.{Broken}
 use Rattle.telling.specs.declared.each.Broken.TheVariants.{Memory, Put}
@@ -10,8 +10,18 @@ use Rattle.verdict_telling.specs.Whole.{TellsWhole}
 use Rattle.verdict_telling.specs.declared.whole.Told.{Told}
 use Rattle.endings.specs.Puts.{Speaks}
 use Rattle.endings.specs.Transcripts.{Ending}
-use Rattle.diagnose_cli.specs.VerdictReplies.{MayTell, kind_of_told, status_of_told}
+use Rattle.diagnose_cli.specs.VerdictReplies.{kind_of_told, IsVerdicts}
 use Rattle.endings.proofs.Speaking.{speaks_broken, speaks_cut, speaks_said}
+use Rattle.std.specs.Prelude.{IsOkAnd}
+use Rattle.diagnose_cli.specs.Outcomes.{status_of_telling}
+
+-- the status, by how telling ends
+abbrev pub status_of_told : Result Told Broken → ℕ
+status_of_told r = status_of_telling kind_of_told r
+
+-- so it is of an ending
+abbrev pub MayTell : Net → AlarmLog → ℕ → ℕ → List BookEntry → Ending → Type 0
+MayTell net alarms n budget book e = IsOkAnd e (IsVerdicts net alarms n budget book)
 
 module _ (net : Net) (alarms : Log) (n budget : ℕ) (book : List BookEntry) (before now : Output) (rose : Type 0) where
   abbrev may : Ending → Type 0

@@ -1,5 +1,5 @@
 -- What `verdicts` says: the reply of `diagnose`, and behind a least number of faults one reply on each fault event, in order.
-use Rattle.std.specs.Prelude.{◌≡◌, ◌⊎◌, ℕ, true, false, List, [], Result, IsOkAnd}
+use Rattle.std.specs.Prelude.{◌≡◌, ◌⊎◌, ℕ, true, false, List, []}
 use Rattle.des_net.specs.Network.{Net}
 use Rattle.answers.specs.declared.verdict.Verdict.{Verdict}
 use Rattle.inquiries.specs.Begun.{HasAskedWithin, LeavesQuestion}
@@ -7,14 +7,12 @@ use Rattle.least_faults.specs.Growing.{HasGrownWithin}
 use Rattle.answers.specs.declared.found.Found.{Found}
 use Rattle.log_order.specs.Log.{Log as AlarmLog}
 use Rattle.proof_ledger.specs.Book.{BookEntry}
-use Rattle.telling.specs.declared.each.Broken.{Broken}
 use Rattle.verdict_telling.specs.Whole.{FollowsNext, HaveReplies, events_behind, told_of}
 use Rattle.verdict_telling.specs.declared.whole.Told.{Told}
 use Rattle.verdict_telling.specs.declared.whole.Told.TheVariants.{Judged, NotExplained, TooMany, NotDecided}
 use Rattle.endings.specs.declared.ending.Kind.{Kind}
 use Rattle.endings.specs.declared.ending.Kind.TheVariants.{Done, Absent, Undecided, Many}
-use Rattle.endings.specs.Transcripts.{End, Ending, Transcript, said, cut, broken}
-use Rattle.diagnose_cli.specs.Outcomes.{status_of_telling}
+use Rattle.endings.specs.Transcripts.{End, Transcript, said, cut, broken}
 
 -- what is told in all has the kind of the reply about the log, but where some event is left open
 abbrev pub kind_of_told : Told → Kind
@@ -23,10 +21,6 @@ kind_of_told (Judged false) = Done
 kind_of_told NotExplained = Absent
 kind_of_told TooMany = Many
 kind_of_told NotDecided = Undecided
-
--- the status, by how telling ends
-abbrev pub status_of_told : Result Told Broken → ℕ
-status_of_told r = status_of_telling kind_of_told r
 
 -- The texts are all replies: what was found, with the book that shows it, and the verdict on each fault event behind a least number of faults.
 pub record IsToldInAll (net : Net) (alarms : AlarmLog) (n budget : ℕ) (book : List BookEntry) (texts : List (List ℕ)) (kind : Kind) : Type 0 where
@@ -66,7 +60,3 @@ EndsVerdicts net alarms n budget book texts broken = IsToldNothing net alarms n 
 -- what may be said of this network and this log where this book is left
 abbrev pub IsVerdicts : Net → AlarmLog → ℕ → ℕ → List BookEntry → Transcript → Type 0
 IsVerdicts net alarms n budget book told = EndsVerdicts net alarms n budget book told.texts told.end
-
--- so it is of an ending
-abbrev pub MayTell : Net → AlarmLog → ℕ → ℕ → List BookEntry → Ending → Type 0
-MayTell net alarms n budget book e = IsOkAnd e (IsVerdicts net alarms n budget book)

@@ -7,7 +7,7 @@ use Rattle.des_base.proofs.Elements.{all_from, here_first, map_from, map_has}
 use Rattle.des_base.specs.Lists.{EachPair, numbers_below}
 use Rattle.des_net.specs.Network.{Net, is_fault}
 use Rattle.fault_verdicts.proofs.Telling.{with_told, without_told}
-use Rattle.fault_verdicts.specs.Asked.{Question, without, with_event, VerdictMeaning, of_question, occurs, in_question, some_step, no_step, IsVerdictClause, assumed_of, verdict_literals, some_step_clause, some_step_clauses, no_step_literals, made_meanings, verdict_meanings}
+use Rattle.fault_verdicts.specs.Asked.{Question, without, with_event, VerdictMeaning, of_question, occurs, in_question, some_step, no_step, IsVerdictClause, assumed_of, verdict_literals, some_step_clause, some_step_clauses, no_step_literals}
 use Rattle.fault_verdicts.specs.Telling.{AsksBeside, EventsArePosed}
 use Rattle.question_clauses.proofs.LogCodes.{has_name, named_entry}
 use Rattle.question_clauses.proofs.Lists.{all_at, from_numbers}
@@ -24,6 +24,14 @@ use Rattle.prop_core.specs.FurtherNames.{LiteralOf, holds, fails, lifted_meaning
 use Rattle.run_decode.specs.Question.{IsNamedQuestion}
 use Rattle.step_encode.specs.FaultInputs.{event_literal, event_literals}
 use Rattle.prop_core.proofs.FurtherNames.{reads_both}
+
+-- the meanings of variables that were made for events
+abbrev pub made_meanings : List (ℕ × ℕ) → List (ℕ × VerdictMeaning)
+made_meanings made = map (λ entry. (entry.0, occurs entry.1 entry.0)) made
+
+-- those of a question, and of variables that were made beside it
+abbrev pub verdict_meanings : List (ℕ × Meaning) → List (ℕ × ℕ) → List (ℕ × VerdictMeaning)
+verdict_meanings names made = lifted_meanings of_question names ++ made_meanings made
 
 -- ---- lists that read as others
 

@@ -17,9 +17,9 @@ use Rattle.prop_core.specs.VariableNames.{Meaning, happens, meaning_of, HasEachO
 use Rattle.prop_core.specs.declared.grid.Grid.{Grid}
 use Rattle.prop_core.specs.declared.lit.Lit.{Lit}
 use Rattle.run_decode.proofs.Assumptions.{is_guard}
-use Rattle.run_decode.proofs.Tells.{ridden_tells, consistent_by, unnamed, guards_true}
+use Rattle.run_decode.proofs.Tells.{ridden_tells, consistent_by, unnamed, guards_true, Rides, SaysOfWords}
 use Rattle.run_decode.specs.Faithful.{MakesTrue}
-use Rattle.run_decode.specs.Tells.{Rides, SaysOfWords, Tells}
+use Rattle.run_decode.specs.Tells.{Tells}
 use Rattle.step_encode.specs.FaultInputs.{event_literal, event_literals}
 use Rattle.fault_verdicts.proofs.Truths.{happened, happening, event_is, some_true, true_some}
 use Rattle.fault_verdicts.specs.Asked.{asked_for, without, with_event, some_step_clause, some_step_clauses, no_step_literals}

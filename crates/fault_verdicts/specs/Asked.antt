@@ -9,7 +9,7 @@ use Rattle.prop_core.specs.declared.grid.Grid.{Grid}
 use Rattle.prop_core.specs.declared.lit.Lit.{Lit}
 use Rattle.prop_core.specs.VariableNames.{Meaning, happens, NamedLiteral}
 use Rattle.run_decode.specs.Drawn.{IsNamedClause, assumption_literals}
-use Rattle.prop_core.specs.FurtherNames.{LiteralOf, holds, fails, lifted, lifted_meanings, AreDrawnBy, IsLifted}
+use Rattle.prop_core.specs.FurtherNames.{LiteralOf, holds, fails, lifted, AreDrawnBy, IsLifted}
 use Rattle.run_decode.specs.Tells.{Property, Tells, ExplainsWithin}
 use Rattle.step_encode.specs.FaultInputs.{event_literals}
 
@@ -74,11 +74,3 @@ some_step_clauses grid made = map (some_step_clause grid) made
 -- that it happens in none
 abbrev pub no_step_literals : Grid → ℕ → List Lit
 no_step_literals grid e = map negation (event_literals grid e)
-
--- the meanings of variables that were made for events
-abbrev pub made_meanings : List (ℕ × ℕ) → List (ℕ × VerdictMeaning)
-made_meanings made = map (λ entry. (entry.0, occurs entry.1 entry.0)) made
-
--- those of a question, and of variables that were made beside it
-abbrev pub verdict_meanings : List (ℕ × Meaning) → List (ℕ × ℕ) → List (ℕ × VerdictMeaning)
-verdict_meanings names made = lifted_meanings of_question names ++ made_meanings made

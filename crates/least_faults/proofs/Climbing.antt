@@ -18,7 +18,7 @@ use Rattle.least_faults.specs.declared.asking.Asked.{Asked}
 use Rattle.least_faults.specs.declared.asking.Asked.TheVariants as asked
 use Rattle.answers.specs.Explanations.{IsExplanation}
 use Rattle.least_faults.specs.Answers.{HasConflict, HasConflictFor, IsFound, IsLeastFound, IsAbsentFound, IsManyFound, IsUndecidedFound}
-use Rattle.least_faults.specs.Ascending.{IsRefutedAt, HasComeToBy, HasFound, HasRefused, NegatesBelow}
+use Rattle.least_faults.specs.Ascending.{HasFound, HasRefused}
 use Rattle.least_faults.specs.Asking.{AreAssumptions, ArePut, HasAskedBy, IsRefusal, IsStopped}
 use Rattle.least_faults.specs.Columns.{built_within}
 use Rattle.least_faults.specs.Evidence.{is_final, IsEvidence, IsPosed, IsRefutation, NegatesAssumed}
@@ -41,6 +41,29 @@ use Rattle.sat_solve.proofs.Entries.{learnt_no_final, no_final_in, counted_both}
 use Rattle.sat_solve.specs.Leaving.{IsSearching, EachFinal, PutsNoFinal}
 use Rattle.sat_solve.proofs.Leaving.{each_both, each_none, no_more, searching_none, searching_further, leaves_searched, finals_before}
 use Rattle.replay.specs.declared.TheConstants.{MOST_FAULTS}
+use Rattle.least_faults.specs.declared.parts.Parts.{Parts}
+
+-- the clause negates what is assumed for some bound below this one
+abbrev pub NegatesBelow : CodedLog → CounterState → ℕ → Clause → Type 0
+NegatesBelow code counter k clause = (j : ℕ) × (j < k) × (assumed : List Lit) × AreAssumptions code counter (Some j) assumed × NegatesOnly assumed clause
+
+-- the bound k is refuted, by the last final entry; the search has come to the next one
+pub record IsRefutedAt (code : CodedLog) (counter : CounterState) (net : Net) (log : Log) (n k : ℕ) (first : BuiltQuestion) (since : List BookEntry) : Type 0 where
+  pub assumed : List Lit
+  pub assumptions : AreAssumptions code counter (Some k) assumed
+  pub refuted : IsRefutation first since net log n (Some k) assumed
+
+-- The bounds below k are refuted, each by one of the final entries since then at most, when the question was built so.
+pub record HasComeToBy (code : CodedLog) (counter : CounterState) (first : BuiltQuestion) (net : Net) (log : Log) (n k : ℕ) (old new : List BookEntry) (budget_old budget_new : ℕ) : Type 0 where
+  pub searching : IsSearching old new budget_old budget_new
+  pub finals : EachFinal (NegatesBelow code counter k) searching.since
+  pub few : count_by is_final searching.since ≤ k
+  pub below : (j : ℕ) → k ≡ suc j → IsRefutedAt code counter net log n j first searching.since
+  pub needs : NeedsFaults net log n k
+
+-- the same for the parts of a question
+abbrev pub HasComeTo : {R : Type 0} → Parts R → BuiltQuestion → Net → Log → ℕ → List BookEntry → List BookEntry → ℕ → ℕ → Type 0
+HasComeTo parts first net log k old new budget_old budget_new = HasComeToBy parts.code.coded parts.counter first net log parts.step.steps k old new budget_old budget_new
 
 pub as_explained : (net : Net) (log : Log) (n : ℕ) (best : Best) → IsExplanation net log n best → IsExplained net log n best.faults
 as_explained net log n best given = record { word = _; order = _; explains = given.explains; faults = given.faults }

@@ -2,7 +2,7 @@
 use Rattle.std.proofs.Common.{◌≡◌, ◌≢◌, ◌∙◌, ℕ, suc, ◌+◌, ◌-◌, List, [], length, max, Option, None, Some, refl, sym, ap, arith, subst, append-nil, length-append}
 use Rattle.card_counter.specs.CounterState.{CounterState}
 use Rattle.des_net.specs.Network.{Net}
-use Rattle.least_faults.proofs.Climbing.{come_on, come_further}
+use Rattle.least_faults.proofs.Climbing.{come_on, come_further, HasComeTo, HasComeToBy}
 use Rattle.least_faults.proofs.Columns.{keeps_none, keeps_both}
 use Rattle.least_faults.proofs.ColumnsBuilt.{columns_both, question_columns, within_further, within_none}
 use Rattle.answers.specs.declared.found.Best.{Best}
@@ -10,7 +10,6 @@ use Rattle.least_faults.specs.declared.asking.Asked.{Asked}
 use Rattle.least_faults.specs.declared.asking.Asked.TheVariants.{Refuted}
 use Rattle.least_faults.specs.declared.parts.Parts.{Parts}
 use Rattle.answers.specs.Explanations.{IsExplanation}
-use Rattle.least_faults.specs.Ascending.{HasComeTo, HasComeToBy}
 use Rattle.least_faults.specs.Asking.{GoesOnReady, HasAsked}
 use Rattle.least_faults.specs.Columns.{columns_built, columns_for, built_within}
 use Rattle.least_faults.specs.Growing.{KeepsQuestion}

@@ -4,7 +4,7 @@ mod LabelLemmas
 mod RowLemmas
 mod ScriptLemmas
 mod GrowthLemmas
-mod LogLemmas
+pub mod LogLemmas
 mod PrintLemmas
 mod TextLemmas
 mod ReadBackLemmas

@@ -18,15 +18,31 @@ use Rattle.log_csv.specs.declared.fault.LogReadRefusal.{LogReadRefusal}
 use Rattle.log_csv.specs.declared.row.Row.TheVariants as row
 use Rattle.log_csv.specs.declared.refusal.RowRefusal.{RowRefusal}
 use Rattle.log_csv.specs.declared.refusal.RowRefusal.TheVariants.{Shape, Name, Memory}
-use Rattle.log_csv.specs.Records.{Record, alarm, before, ask, nothing, malformed, record_of}
+use Rattle.log_csv.specs.Records.{Record, alarm, before, ask, nothing, malformed, record_of, records_of}
 use Rattle.log_csv.specs.Faults.{IsLogDue, log_fault_at}
 use Rattle.log_csv.specs.ScriptText.{is_malformed, row_code, row_of, names_of_record}
 use Rattle.log_csv.specs.LogText.{recorded_alarms, first_log_fault, first_record_fault, ids_of, is_pair_past_limit, is_question_record, log_of, log_of_records, pairs_of, record_code}
-use Rattle.log_csv.specs.Reading.{Adds, IsLogOf, IsReadTo, ReadsRecord, refusal_code, log_refusal_at, row_refusal_at}
+use Rattle.log_csv.specs.Reading.{Adds, IsLogOf, ReadsRecord, log_refusal_at, row_refusal_at}
 use Rattle.csv.specs.Reading.{default_config, records, strip_bom}
 use Rattle.log_csv.proofs.RowLemmas.{malformed_refused}
 use Rattle.log_csv.proofs.GrowthLemmas.{log-alarm, log-nothing, log-pair}
 use Rattle.log_csv.proofs.ScriptLemmas.{due_here, no_fault}
+
+-- the records before these were accepted, and the first fault of these is that of the text
+pub record IsReadTo (bytes : List ℕ) (left : List (List (List ℕ))) (row : ℕ) (log : Log) : Type 0 where
+  pub earlier : List Record
+  pub logged : IsLogOf earlier log
+  pub whole : earlier ++ map record_of left ≡ records_of bytes
+  pub faults : first_record_fault (row + 1) earlier (map record_of left) ≡ first_log_fault bytes
+
+-- the code of a refusal of the log, or 0 for `Memory`, which is no fault of the text
+abbrev pub refusal_code : LogRefusal → ℕ
+refusal_code refused.Double = 1
+refusal_code refused.Unknown = 2
+refusal_code refused.Cycle = 3
+refusal_code refused.NoLabels = 4
+refusal_code refused.Limit = 5
+refusal_code refused.Memory = 0
 
 -- ---- codes 6 and 7 come first
 

@@ -1,5 +1,5 @@
 -- What the steps of reading a text come to.
-use Rattle.std.specs.Prelude.{◌≡◌, ⊤, ℕ, ◌+◌, List, map, [], ◌∷◌, ◌++◌, ◌==◌, is_some, true, false, Option, Some, None, Result, Ok, Err}
+use Rattle.std.specs.Prelude.{◌≡◌, ⊤, ℕ, ◌+◌, List, [], ◌∷◌, ◌++◌, ◌==◌, is_some, true, false, Option, Some, None, Result, Ok, Err}
 use Rattle.std.specs.Borrow.{Bor}
 use Rattle.std.specs.List.{AllByRecursion, list_all, slice_split}
 use Rattle.des_base.specs.declared.name.NameFault.{NameFault}
@@ -13,10 +13,10 @@ use Rattle.log_csv.specs.declared.fault.LogReadRefusal.TheVariants as text
 use Rattle.log_csv.specs.declared.row.Row.{Row}
 use Rattle.log_csv.specs.declared.refusal.RowRefusal.{RowRefusal}
 use Rattle.log_csv.specs.declared.refusal.RowRefusal.TheVariants.{Shape, Name, Memory}
-use Rattle.log_csv.specs.Records.{Record, alarm, before, ask, nothing, malformed, record_of, records_of}
+use Rattle.log_csv.specs.Records.{Record, alarm, before, ask, nothing, malformed}
 use Rattle.log_csv.specs.Faults.{IsLogDue, log_fault_at}
 use Rattle.log_csv.specs.ScriptText.{row_code, row_of}
-use Rattle.log_csv.specs.LogText.{first_log_fault, first_record_fault, ids_of, log_of_records, record_code}
+use Rattle.log_csv.specs.LogText.{ids_of, log_of_records, record_code}
 
 -- the pieces between bars of what is left of a field, if anything is
 abbrev pub pieces_in : Option (Bor (List ℕ)) → List (List ℕ)
@@ -79,22 +79,6 @@ pub record IsLogOf (earlier : List Record) (log : Log) : Type 0 where
 abbrev pub Adds : List Record → Record → ℕ → Log → Result (Unit {0}) LogReadRefusal → Type 0
 Adds earlier said row log (Ok done) = (record_code earlier said ≡ None) × IsLogOf (earlier ++ said ∷ []) log
 Adds earlier said row log (Err refusal) = IsLogDue (log_fault_at row (record_code earlier said)) refusal
-
--- the records before these were accepted, and the first fault of these is that of the text
-pub record IsReadTo (bytes : List ℕ) (left : List (List (List ℕ))) (row : ℕ) (log : Log) : Type 0 where
-  pub earlier : List Record
-  pub logged : IsLogOf earlier log
-  pub whole : earlier ++ map record_of left ≡ records_of bytes
-  pub faults : first_record_fault (row + 1) earlier (map record_of left) ≡ first_log_fault bytes
-
--- the code of a refusal of the log, or 0 for `Memory`, which is no fault of the text
-abbrev pub refusal_code : LogRefusal → ℕ
-refusal_code refused.Double = 1
-refusal_code refused.Unknown = 2
-refusal_code refused.Cycle = 3
-refusal_code refused.NoLabels = 4
-refusal_code refused.Limit = 5
-refusal_code refused.Memory = 0
 
 -- the refusal of a text, where the log refuses the record of this row
 abbrev pub log_refusal_at : ℕ → LogRefusal → LogReadRefusal

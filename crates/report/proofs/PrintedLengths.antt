@@ -10,12 +10,23 @@ use Rattle.replay.specs.Matching.{name_on}
 use Rattle.replay.specs.declared.run.RunStep.{RunStep}
 use Rattle.replay.specs.declared.run.RunStep.TheVariants.{Happens, Dropped}
 use Rattle.answers.specs.declared.found.Found.TheVariants.{Explained, Absent, Many, Undecided}
-use Rattle.report.specs.Replies.{text_of_alarm, text_of_step, text_of_run}
+use Rattle.report.specs.Replies.{text_of_alarm, text_of_step, text_of_run, text_of_found, told_run}
 use Rattle.telling.specs.Lines.{line_with_number, line_with_two_numbers}
-use Rattle.report.specs.ReadBack.{HasAlarmNames, RepliesAreShort, RepliesFit}
+use Rattle.report.specs.ReadBack.{HasAlarmNames, RepliesFit}
 use Rattle.report.specs.VerdictTexts.{RunsFit}
 use Rattle.des_base.proofs.PrintedLines.{name_text}
 use Rattle.replay.specs.declared.TheConstants.{MOST_RUN_STEPS}
+use Rattle.std.specs.Option.{option_map_or}
+use Rattle.des_net.specs.Building.{IsDraft}
+use Rattle.answers.specs.declared.found.Found.{Found}
+
+-- the steps of the run that an answer has, or none
+abbrev pub told_steps : Found → List RunStep
+told_steps found = option_map_or (λ best. best.run) (told_run found) []
+
+-- A reply has at most 130 bytes for each step of its run, and 209 before them.
+abbrev pub RepliesAreShort : Type 0
+RepliesAreShort = (net : Net) (n : ℕ) (found : Found) → IsDraft net → HasAlarmNames (told_steps found) → length (text_of_found net n found) ≤ 130 * length (told_steps found) + 209
 
 -- ---- numbers and names
 

@@ -1,6 +1,5 @@
 -- A printed run reads back as that run, also behind the first line of a reply.
-use Rattle.std.specs.Prelude.{◌≡◌, ℕ, ◌+◌, ◌*◌, ◌<◌, ◌≤◌, List, [], length, All, None, IfSome}
-use Rattle.std.specs.Option.{option_map_or}
+use Rattle.std.specs.Prelude.{◌≡◌, ℕ, ◌<◌, ◌≤◌, List, [], length, All, None, IfSome}
 use Rattle.des_base.specs.Names.{IsName}
 use Rattle.des_net.specs.Building.{IsDraft}
 use Rattle.des_net.specs.Network.{Net}
@@ -35,14 +34,6 @@ PrintedRunsReadBack = (net : Net) (steps : List RunStep) → IsDraft net → IsP
 abbrev pub RepliesReadBack : Type 0
 RepliesReadBack =
     (net : Net) (n : ℕ) (found : Found) → IsDraft net → IfSome (told_run found) (λ best. IsPrintable net best.run → IsRunText net best.run (text_of_found net n found))
-
--- the steps of the run that an answer has, or none
-abbrev pub told_steps : Found → List RunStep
-told_steps found = option_map_or (λ best. best.run) (told_run found) []
-
--- A reply has at most 130 bytes for each step of its run, and 209 before them.
-abbrev pub RepliesAreShort : Type 0
-RepliesAreShort = (net : Net) (n : ℕ) (found : Found) → IsDraft net → HasAlarmNames (told_steps found) → length (text_of_found net n found) ≤ 130 * length (told_steps found) + 209
 
 -- A reply that has a run is no longer than a run text may be.
 abbrev pub RepliesFit : Type 0

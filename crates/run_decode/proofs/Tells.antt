@@ -20,9 +20,25 @@ use Rattle.run_decode.proofs.Questions.{clauses_true, made_true, question_gives_
 use Rattle.run_decode.proofs.Truths.{explained_has_truth, question_has_truth}
 use Rattle.run_decode.specs.Drawn.{assumption_literals}
 use Rattle.run_decode.specs.Question.{Asks}
-use Rattle.run_decode.specs.Tells.{Property, Tells, ExplainsWithin, FaithfulTells, Rides, SaysOfWords, AreBoth}
+use Rattle.run_decode.specs.Tells.{Property, Tells, ExplainsWithin, FaithfulTells, AreBoth}
 use Rattle.replay.specs.Explanation.{Entry}
 use Rattle.run_decode.specs.Decided.{Entails}
+use Rattle.question_clauses.specs.LogLaws.{HasFalse}
+use Rattle.question_clauses.specs.Steps.{AreSteps}
+use Rattle.run_decode.specs.Faithful.{MakesTrue}
+
+-- Further clauses and assumptions say something of the truth of meanings, whatever it is: they may read the variables that have meanings, and choose others.
+pub record Rides (meanings : List (ℕ × Meaning)) (rider : List Clause) (further : List Lit) (says : (Meaning → Bool) → Type 0) : Type 0 where
+  -- if it holds, the other variables can be chosen
+  pub complete : (value : Meaning → Bool) → says value → (given : ℕ → Bool) × MakesTrue (assignment_by meanings value given) rider further
+  -- and if all is true, it holds
+  pub sound : (assignment : ℕ → Bool) → MakesTrue assignment rider further → says (value_by meanings assignment)
+  -- the clauses alone never stand against a truth of meanings
+  pub free : (value : Meaning → Bool) → (given : ℕ → Bool) × AllClausesTrue (assignment_by meanings value given) rider
+
+-- What is said of a truth of meanings holds of the words whose events are those of its steps, with orders that have as many false alarms.
+abbrev pub SaysOfWords : Net → Log → ℕ → ((Meaning → Bool) → Type 0) → Property → Type 0
+SaysOfWords net log n says has = (value : Meaning → Bool) (pieces : List (List ℕ)) (order : List Entry) → AreSteps net n value pieces → HasFalse log value order → says value ↔ has (joined pieces) order
 
 -- Where the clauses entail a clause of negated assumptions, nothing has the property that they tell.
 abbrev pub ToldIsRefuted : Type 1

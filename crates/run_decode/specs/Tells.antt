@@ -2,15 +2,10 @@
 use Rattle.std.specs.Prelude.{◌≢◌, ◌↔◌, ◌⊎◌, ℕ, Bool, List, Option, Contains}
 use Rattle.des_base.specs.Lists.{EachPair}
 use Rattle.des_net.specs.Network.{Net}
-use Rattle.des_net.specs.Width.{joined}
-use Rattle.question_clauses.specs.LogLaws.{HasFalse}
 use Rattle.log_order.specs.Log.{Log}
 use Rattle.prop_core.specs.Clauses.{Clause, negation, AllClausesTrue}
-use Rattle.prop_core.specs.NamedClauses.{value_by, assignment_by}
-use Rattle.prop_core.specs.VariableNames.{Meaning}
 use Rattle.prop_core.specs.declared.lit.Lit.{Lit}
 use Rattle.replay.specs.Explanation.{Entry, Explains, faults_of}
-use Rattle.question_clauses.specs.Steps.{AreSteps}
 use Rattle.run_decode.specs.Faithful.{IsWithin, MakesTrue, IsFaithful}
 
 -- a property of a word and an order of the alarms
@@ -38,19 +33,6 @@ FaithfulTells = (net : Net) (log : Log) (n : ℕ) (bound : Option ℕ) (clauses 
     IsFaithful clauses assumed net log n bound → Tells clauses assumed (ExplainsWithin net log n bound)
 
 -- ---- riders
-
--- Further clauses and assumptions say something of the truth of meanings, whatever it is: they may read the variables that have meanings, and choose others.
-pub record Rides (meanings : List (ℕ × Meaning)) (rider : List Clause) (further : List Lit) (says : (Meaning → Bool) → Type 0) : Type 0 where
-  -- if it holds, the other variables can be chosen
-  pub complete : (value : Meaning → Bool) → says value → (given : ℕ → Bool) × MakesTrue (assignment_by meanings value given) rider further
-  -- and if all is true, it holds
-  pub sound : (assignment : ℕ → Bool) → MakesTrue assignment rider further → says (value_by meanings assignment)
-  -- the clauses alone never stand against a truth of meanings
-  pub free : (value : Meaning → Bool) → (given : ℕ → Bool) × AllClausesTrue (assignment_by meanings value given) rider
-
--- What is said of a truth of meanings holds of the words whose events are those of its steps, with orders that have as many false alarms.
-abbrev pub SaysOfWords : Net → Log → ℕ → ((Meaning → Bool) → Type 0) → Property → Type 0
-SaysOfWords net log n says has = (value : Meaning → Bool) (pieces : List (List ℕ)) (order : List Entry) → AreSteps net n value pieces → HasFalse log value order → says value ↔ has (joined pieces) order
 
 -- the list has the clauses of both, in whatever order
 abbrev pub AreBoth : List Clause → List Clause → List Clause → Type 0

@@ -1,6 +1,6 @@
 -- The book as a search adds to it.
 use Rattle.std.proofs.Common.{◌≡◌, ◌∙◌, ℕ, ◌+◌, Bool, true, false, ◌||◌, ◌++◌, ◌∷◌, [], List, refl, ap, sym, arith, subst, append_assoc, ⊎_elim}
-use Rattle.std.specs.Prelude.{count_by}
+use Rattle.std.specs.Prelude.{count_by, ◌-◌, length}
 use Rattle.std.specs.List.{list_any, list_all, filter_map}
 use Rattle.std.proofs.lemmas.Grind.{common_steps}
 use Rattle.std.proofs.lemmas.Bool.{and_from, or_cases}
@@ -8,14 +8,23 @@ use Rattle.std.proofs.lemmas.List.{append-nil}
 use Rattle.std.proofs.lemmas.List.Folds.{list_all-append, list_any-append}
 use Rattle.std.proofs.lemmas.List.Elements.{filter_map-append}
 use Rattle.prop_core.specs.declared.lit.Lit.{Lit}
-use Rattle.prop_core.specs.Clauses.{Clause}
+use Rattle.prop_core.specs.Clauses.{Clause, negation, is_true}
 use Rattle.prop_core.specs.Trail.{has_var}
 use Rattle.prop_core.proofs.Literals.{has_back, all_at}
 use Rattle.proof_ledger.specs.Book.{BookEntry, learnt, final, clause_of, clauses_of, axiom_of, axioms_of, EachAfter}
 use Rattle.proof_ledger.specs.Fresh.{is_learnt, IfLearnt, IsFreshClause}
 use Rattle.sat_learn.specs.Seen.{is_known_var}
 use Rattle.sat_solve.specs.Searching.{HasAxiomVars, is_learnt_or_final, IsSearched}
-use Rattle.sat_solve.specs.Solving.{LearnsOne, IsClosed}
+use Rattle.sat_solve.specs.Solving.{LearnsOne}
+
+-- a final entry is put, of negated assumptions alone
+pub record IsClosed (assumed : List Lit) (old new : List BookEntry) (number : ℕ) : Type 0 where
+  pub clause : Clause
+  pub hints : List ℕ
+  pub put : new ≡ old ++ final clause hints ∷ []
+  pub numbered : number ≡ length (clauses_of new)
+  pub negated : list_all (λ l. is_true assumed (negation l)) clause ≡ true
+  pub known : list_all (λ l. is_known_var (clauses_of old) l.var) clause ≡ true
 
 pub clauses_of-learnt : (book : List BookEntry) (c : Clause) (hs : List ℕ) → clauses_of (book ++ learnt c hs ∷ []) ≡ clauses_of book ++ c ∷ []
 clauses_of-learnt book c hs = filter_map-append clause_of book (learnt c hs ∷ [])

@@ -21,8 +21,9 @@ use Rattle.sat_learn.specs.Learnt.{IsClosing}
 use Rattle.sat_learn.proofs.Beginning.{conflict_false}
 use Rattle.sat_learn.specs.Seen.{is_known_var}
 use Rattle.sat_solve.specs.Searching.{IsRefuted}
-use Rattle.sat_solve.specs.Solving.{AllJoined, IsUnder, IsFurther, HasAssumedDecisions, IsClosed}
+use Rattle.sat_solve.specs.Solving.{AllJoined, IsUnder, IsFurther, HasAssumedDecisions}
 use Rattle.sat_solve.proofs.Learning.{all_quiet_from}
+use Rattle.sat_solve.proofs.Booking.{IsClosed}
 
 was_none : (o : Option ℕ) → is_none o ≡ true → o ≡ None
 was_none None e = refl

@@ -14,10 +14,10 @@ use Rattle.sat_learn.specs.Seen.{is_known_var}
 use Rattle.sat_solve.specs.declared.answer.Answer.TheVariants.{Unsat}
 use Rattle.sat_solve.specs.declared.search.Search.{Search}
 use Rattle.sat_solve.specs.Searching.{IsSearched}
-use Rattle.sat_solve.specs.Solving.{AreTaken, AreSound, AreOver, AreUnderWay, AreAtRest, IsClosed, IsEnded, KeepsVariables, KeepsWaiting, WithRoom}
+use Rattle.sat_solve.specs.Solving.{AreTaken, AreSound, AreOver, AreUnderWay, AreAtRest, IsEnded, KeepsVariables, KeepsWaiting}
 use Rattle.sat_order.specs.Waiting.{waits}
-use Rattle.sat_solve.proofs.WaitingVariables.{serving_roomier, waiting_roomier, waiting_kept, more_room}
-use Rattle.sat_solve.proofs.Booking.{searched_none, searched_closed}
+use Rattle.sat_solve.proofs.WaitingVariables.{serving_roomier, waiting_roomier, waiting_kept, more_room, WithRoom}
+use Rattle.sat_solve.proofs.Booking.{searched_none, searched_closed, IsClosed}
 use Rattle.sat_solve.proofs.Clashing.{refuted_from}
 use Rattle.sat_solve.proofs.Learning.{serving_attached, under_attached, under_same, unattached_from}
 use Rattle.sat_solve.proofs.Putting.{put_closed}

@@ -26,8 +26,8 @@ use Rattle.sat_learn.specs.Seen.{is_known_var}
 use Rattle.sat_learn.specs.Learnt.{IsLearnt}
 use Rattle.sat_learn.proofs.Beginning.{quiet_at}
 use Rattle.sat_solve.specs.Searching.{HasAxiomVars}
-use Rattle.sat_solve.specs.Solving.{AllJoined, IsServing, IsUnder, IsClosed, IsUnattached}
-use Rattle.sat_solve.proofs.Booking.{clauses_of-learnt, clauses_of-final}
+use Rattle.sat_solve.specs.Solving.{AllJoined, IsServing, IsUnder, IsUnattached}
+use Rattle.sat_solve.proofs.Booking.{clauses_of-learnt, clauses_of-final, IsClosed}
 
 none_is : (o : Option ℕ) → o ≡ None → is_none o ≡ false → ⊥
 none_is None e f = cc

@@ -9,7 +9,8 @@ use Rattle.proof_ledger.specs.Fresh.{is_learnt}
 use Rattle.sat_solve.specs.declared.answer.Answer.{Answer}
 use Rattle.sat_solve.specs.declared.answer.Answer.TheVariants.{Sat, Unsat, Spent}
 use Rattle.sat_solve.specs.Searching.{AreLearnt, IsPutFor, HasLearnt, HasPut}
-use Rattle.sat_solve.specs.Solving.{LearnsOne, IsClosed}
+use Rattle.sat_solve.specs.Solving.{LearnsOne}
+use Rattle.sat_solve.proofs.Booking.{IsClosed}
 
 pub learnt_none : (book : List BookEntry) → HasLearnt book book
 learnt_none book = record { since = []; whole = sym (append-nil book); all_learnt = refl }

@@ -21,9 +21,14 @@ use Rattle.sat_prop.proofs.Fronts.{front_length}
 use Rattle.sat_prop.proofs.Leveling.{level_front, level_step}
 use Rattle.sat_prop.proofs.Seeing.{value_agrees, value_denies, value_lacks}
 use Rattle.sat_learn.specs.Seen.{is_known_var}
-use Rattle.sat_solve.specs.Solving.{AreWaiting, IsServing, AreAtRest, WithRoom}
+use Rattle.sat_solve.specs.Solving.{AreWaiting, IsServing, AreAtRest}
 use Rattle.sat_solve.proofs.Learning.{serving_attached}
 use Rattle.des_base.proofs.Elements.{all_change}
+
+-- there is room for more clauses, and all else is as before
+pub record WithRoom (old new : TrailState) : Type 0 where
+  pub same : new ≡ record old { spare = new.spare }
+  pub more : old.spare ≤ new.spare
 
 -- a literal by its place
 pub read_at : (literals : List Lit) (place : ℕ) (l : Lit) → slice_get literals place ≡ Some l → get_or literals place no_literal ≡ l

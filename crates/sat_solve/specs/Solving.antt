@@ -3,8 +3,8 @@ use Rattle.std.specs.Prelude.{◌≡◌, ℕ, ◌+◌, ◌-◌, ◌*◌, ◌<◌
 use Rattle.std.specs.List.{list_all, AllByRecursion, prefix_len, zip}
 use Rattle.des_base.specs.declared.TheConstants.{VAR_LIMIT}
 use Rattle.prop_core.specs.declared.lit.Lit.{Lit}
-use Rattle.prop_core.specs.Clauses.{Clause, negation, is_true, is_open, value_in, HasValues, AreConsistent}
-use Rattle.proof_ledger.specs.Book.{BookEntry, learnt, final, clauses_of}
+use Rattle.prop_core.specs.Clauses.{Clause, is_true, is_open, value_in, HasValues, AreConsistent}
+use Rattle.proof_ledger.specs.Book.{BookEntry, learnt, clauses_of}
 use Rattle.proof_ledger.specs.Fresh.{IsFreshClause}
 use Rattle.sat_order.specs.Rank.{OrderState, KeepsRanks}
 use Rattle.sat_order.specs.Waiting.{waits}
@@ -157,11 +157,6 @@ KeepsWaiting old new = (var : ℕ) → waits old var ≡ true → waits new var 
 abbrev pub AreTrailValues : List Bool → List Lit → ℕ → Type 0
 AreTrailValues values literals vars = (var : ℕ) → var < vars → value_in values var ≡ is_true literals (record { var = var; positive = true })
 
--- there is room for more clauses, and all else is as before
-pub record WithRoom (old new : TrailState) : Type 0 where
-  pub same : new ≡ record old { spare = new.spare }
-  pub more : old.spare ≤ new.spare
-
 -- no variable below a number is open
 abbrev pub AreClosed : List Lit → ℕ → Type 0
 AreClosed literals vars = (var : ℕ) → var < vars → is_open literals (record { var = var; positive = false }) ≡ false
@@ -212,15 +207,6 @@ pub record LearnsOne (old new : List BookEntry) (budget_old budget_new : ℕ) : 
   pub put : new ≡ old ++ learnt clause hints ∷ []
   pub paid : budget_new + 1 ≡ budget_old
   pub fresh : HasAxiomVars old → IsFreshClause old clause
-  pub known : list_all (λ l. is_known_var (clauses_of old) l.var) clause ≡ true
-
--- a final entry is put, of negated assumptions alone
-pub record IsClosed (assumed : List Lit) (old new : List BookEntry) (number : ℕ) : Type 0 where
-  pub clause : Clause
-  pub hints : List ℕ
-  pub put : new ≡ old ++ final clause hints ∷ []
-  pub numbered : number ≡ length (clauses_of new)
-  pub negated : list_all (λ l. is_true assumed (negation l)) clause ≡ true
   pub known : list_all (λ l. is_known_var (clauses_of old) l.var) clause ≡ true
 
 -- what a search has found, by the trail as it stands then

@@ -1,7 +1,7 @@
 -- the log is that of the records so far, and the first fault of the records to come is that of all
 use Rattle.std.proofs.Common.{◌+◌, ◌≤◌, length}
-use Rattle.log_csv.specs.Reading.{IsReadTo}
 use Rattle.log_csv.specs.RecordsLeft.{IsPlain, records_left}
+use Rattle.log_csv.proofs.LogLemmas.{IsReadTo}
 use Rattle.log_csv.proofs.log_text.add_records.Given as goal
 
 abbrev pub invariant-records : goal.invariant-records

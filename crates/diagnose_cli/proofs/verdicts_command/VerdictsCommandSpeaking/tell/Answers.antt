@@ -3,9 +3,8 @@ use Rattle.std.proofs.Common.{◌≡◌, [], IsOkAnd}
 use Rattle.des_base.specs.Outside.{Rose}
 use Rattle.endings.specs.Puts.{Speaks}
 use Rattle.diagnose_cli.specs.Commands.{verdicts_speech}
-use Rattle.diagnose_cli.specs.VerdictReplies.{MayTell, status_of_told}
 use Rattle.diagnose_cli.proofs.ReadOver.{over_case}
-use Rattle.diagnose_cli.proofs.VerdictAnswers.{told_speaks}
+use Rattle.diagnose_cli.proofs.VerdictAnswers.{told_speaks, MayTell, status_of_told}
 use Rattle.diagnose_cli.proofs.verdicts_command.VerdictsCommandSpeaking.tell.Goals as goal
 
 pub returns-clause-speaks : goal.returns-clause-speaks

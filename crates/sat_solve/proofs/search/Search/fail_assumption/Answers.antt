@@ -1,7 +1,6 @@
 use Rattle.std.proofs.Common.{◌+◌, ap}
 use Rattle.std.specs.Prelude.{IfOk}
 use Rattle.sat_prop.specs.TrailState.{TrailState}
-use Rattle.sat_solve.specs.Solving.{IsClosed}
 use Rattle.sat_solve.proofs.WaitingVariables.{room_max, room_given}
 use Rattle.sat_solve.proofs.Clashing.{closed_put, assumed_same, one_of}
 use Rattle.sat_solve.proofs.Keeping.{over_roomier, over_put, searched_put, ended_put, unput}
@@ -9,6 +8,7 @@ use Rattle.sat_solve.proofs.Standing.{next_assumed, next_forced}
 use Rattle.sat_solve.proofs.search.Search.fail_assumption.Given as given
 use Rattle.sat_solve.proofs.search.Search.fail_assumption.Goals as goal
 use Rattle.des_base.proofs.Results.{on_err}
+use Rattle.sat_solve.proofs.Booking.{IsClosed}
 
 pub analyse_failed-requires-clause-forced : goal.analyse_failed-requires-clause-forced
 analyse_failed-requires-clause-forced g c =

@@ -1,13 +1,13 @@
 use Rattle.std.proofs.Common.{◌+◌, ap}
 use Rattle.std.specs.Prelude.{IfOk}
 use Rattle.sat_prop.specs.TrailState.{TrailState}
-use Rattle.sat_solve.specs.Solving.{IsClosed}
 use Rattle.sat_solve.proofs.WaitingVariables.{room_max, room_given}
 use Rattle.sat_solve.proofs.Clashing.{closed_put, assumed_same, none_among}
 use Rattle.sat_solve.proofs.Keeping.{over_roomier, over_put, searched_put, ended_put, unput}
 use Rattle.sat_solve.proofs.search.Search.fail_by_conflict.Given as given
 use Rattle.sat_solve.proofs.search.Search.fail_by_conflict.Goals as goal
 use Rattle.des_base.proofs.Results.{on_err}
+use Rattle.sat_solve.proofs.Booking.{IsClosed}
 
 pub returns-in_err-learnt-clause-err : goal.returns-in_err-learnt-clause-err
 returns-in_err-learnt-clause-err g c =
