@@ -65,13 +65,13 @@ abbrev pub cost_names : List (ℕ × Meaning) → Scale → List (ℕ × CostMea
 cost_names names scale = lifted_meanings of_question names ++ place_names scale
 
 -- which name it is, where it is one of a question
-question_name : CostMeaning → Meaning → Meaning
-question_name (of_question meaning) other = meaning
-question_name (weighs i j) other = other
+cost_question_name : CostMeaning → Meaning → Meaning
+cost_question_name (of_question meaning) other = meaning
+cost_question_name (weighs i j) other = other
 
-question_injective : (a b : Meaning) → of_question a ≡ of_question b → a ≡ b
-unfolding question_name
-question_injective a b same = ap (λ meaning. question_name meaning a) same
+of_question_once : (a b : Meaning) → of_question a ≡ of_question b → a ≡ b
+unfolding cost_question_name
+of_question_once a b same = ap (λ meaning. cost_question_name meaning a) same
 
 same_place : (i j k l : ℕ) → weighs i j ≡ weighs k l → (i ≡ k) × (j ≡ l)
 same_place i j k l same = (cc, cc)
@@ -80,8 +80,8 @@ other_kind : (meaning : Meaning) (i j : ℕ) → of_question meaning ≡ weighs 
 other_kind meaning i j same = cc
 
 -- no variable of two places is the same
-same_variable : (scale : Scale) (i j k l : ℕ) → j < scale.amounts → l < scale.amounts → place_variable scale i j ≡ place_variable scale k l → (i ≡ k) × (j ≡ l)
-same_variable scale i j k l few less same = (
+same_scale_place : (scale : Scale) (i j k l : ℕ) → j < scale.amounts → l < scale.amounts → place_variable scale i j ≡ place_variable scale k l → (i ≡ k) × (j ≡ l)
+same_scale_place scale i j k l few less same = (
   sym (input_back scale i j few) ∙ ap (input_of scale) same ∙ input_back scale k l less,
   sym (amount_back scale i j few) ∙ ap (amount_of scale) same ∙ amount_back scale k l less,
 )
@@ -92,7 +92,7 @@ Differ a b = (a.0 ≢ b.0) × (a.1 ≢ b.1)
 places_once : (scale : Scale) → AreOnce (place_names scale)
 places_once scale = pairs_flat Differ (λ i. map (place_name scale i) (numbers_below scale.amounts)) scale.inputs
     (λ i inside. pairs_map Differ (place_name scale i) scale.amounts (λ j l less few. (
-      λ same. let is = (same_variable scale i j i l (omega (arith, less, few)) few same).1 in omega (arith, is, less),
+      λ same. let is = (same_scale_place scale i j i l (omega (arith, less, few)) few same).1 in omega (arith, is, less),
       λ same. let is = (same_place i j i l same).1 in omega (arith, is, less),
     )))
     (λ i k a b less inside here there.
@@ -100,7 +100,7 @@ places_once scale = pairs_flat Differ (λ i. map (place_name scale i) (numbers_b
     let other = map_of (place_name scale k) scale.amounts b there in
     subst (λ (x : ℕ × CostMeaning). Differ x b) one.2
     (subst (Differ (place_name scale i one.0)) other.2 (
-      λ same. let is = (same_variable scale i one.0 k other.0 one.1 other.1 same).0 in omega (arith, is, less),
+      λ same. let is = (same_scale_place scale i one.0 k other.0 one.1 other.1 same).0 in omega (arith, is, less),
       λ same. let is = (same_place i one.0 k other.0 same).0 in omega (arith, is, less),
     )))
 
@@ -109,7 +109,7 @@ module _ (net : Net) (cost : ℕ → ℕ) (log : Log) (n : ℕ) (names : List (�
   inputs_are = same_length names asks.inputs (named_weights net cost log n) asks.input_names
 
   names_once : AreOnce (cost_names names scale)
-  names_once = once_further of_question question_injective names (place_names scale) asks.asks.question.once (places_once scale) (λ a b in' there.
+  names_once = once_further of_question of_question_once names (place_names scale) asks.asks.question.once (places_once scale) (λ a b in' there.
       let from = flat_of (λ i. map (place_name scale i) (numbers_below scale.amounts)) scale.inputs b there in
       let of' = map_of (place_name scale from.0) scale.amounts b from.2 in
       let none : meaning_of names (place_variable scale from.0 of'.0) ≡ None = asks.nameless (place_variable scale from.0 of'.0) (omega arith) in
@@ -134,8 +134,8 @@ module _ (net : Net) (cost : ℕ → ℕ) (log : Log) (n : ℕ) (names : List (�
     sign = ap not is.positive;
   }
 
-  of_clause : (clause : Clause) (named : List NamedLiteral) → ReadsAs names clause named → ReadsBy (cost_names names scale) clause (map (lifted of_question) named)
-  of_clause clause named reads = lifted_reads of_question names (place_names scale) clause named reads
+  question_reads : (clause : Clause) (named : List NamedLiteral) → ReadsAs names clause named → ReadsBy (cost_names names scale) clause (map (lifted of_question) named)
+  question_reads clause named reads = lifted_reads of_question names (place_names scale) clause named reads
 
   -- ---- the clauses
 
@@ -148,8 +148,8 @@ module _ (net : Net) (cost : ℕ → ℕ) (log : Log) (n : ℕ) (names : List (�
     written : IsNamedWeighing (named_weights net cost log n) (1 + MOST_COST) which
     reads : ReadsBy (cost_names names scale) clause (weighing_clause which)
 
-  below_all : (j : ℕ) → j < scale.amounts → j < 1 + MOST_COST
-  below_all j few = let amounts = asks.amounts in omega (arith, amounts, few)
+  amount_below : (j : ℕ) → j < scale.amounts → j < 1 + MOST_COST
+  amount_below j few = let amounts = asks.amounts in omega (arith, amounts, few)
 
   below_inputs : (i : ℕ) → i < length asks.inputs → i < scale.inputs
   below_inputs i inside = let counted = asks.counted in omega (arith, counted, inside)
@@ -160,7 +160,7 @@ module _ (net : Net) (cost : ℕ → ℕ) (log : Log) (n : ℕ) (names : List (�
       let many = inputs_are in
       let one : i < length asks.inputs = omega (arith, last) in record {
         which = keeps_weight i j;
-        written = (omega (arith, last, many), below_all j is.1);
+        written = (omega (arith, last, many), amount_below j is.1);
         reads = reads_zip (cost_names names scale) (negative (place_variable scale i j) ∷ positive (place_variable scale (suc i) j) ∷ []) (fails (weighs i j) ∷ holds (weighs (suc i) j) ∷ [])
             (off_place i j (below_inputs i one) is.1, (on_place (suc i) j (below_inputs (suc i) last) is.1, tt));
       }
@@ -169,7 +169,7 @@ module _ (net : Net) (cost : ℕ → ℕ) (log : Log) (n : ℕ) (names : List (�
       let found = named_at names asks.inputs (named_weights net cost log n) i input asks.input_names at in
       let heavy = found.is.weight in record {
         which = has_weight i j found.named.0;
-        written = (found.named.1, found.there, omega (arith, less, heavy), below_all j few);
+        written = (found.named.1, found.there, omega (arith, less, heavy), amount_below j few);
         reads = reads_zip (cost_names names scale) (negation x ∷ positive (place_variable scale i j) ∷ []) (fails (of_question found.named.0) ∷ holds (weighs i j) ∷ [])
             (off_input input found.named found.is, (on_place i j (below_inputs i found.inside) few, tt));
       }
@@ -181,7 +181,7 @@ module _ (net : Net) (cost : ℕ → ℕ) (log : Log) (n : ℕ) (names : List (�
       let low : j < scale.amounts = omega (arith, few) in
       subst (λ w. IsWeighing (weight_clause (place_variable scale) (weighs_up i j w x))) (sym found.is.weight) (record {
         which = adds_weight i j found.named.1 found.named.0;
-        written = (found.there, subst (λ w. j + w < 1 + MOST_COST) found.is.weight (below_all (j + weight) few));
+        written = (found.there, subst (λ w. j + w < 1 + MOST_COST) found.is.weight (amount_below (j + weight) few));
         reads = reads_zip (cost_names names scale) (negative (place_variable scale i j) ∷ negation x ∷ positive (place_variable scale (suc i) (j + found.named.1)) ∷ [])
             (fails (weighs i j) ∷ fails (of_question found.named.0) ∷ holds (weighs (suc i) (j + found.named.1)) ∷ [])
             (off_place i j (below_inputs i one) low, (off_input input found.named found.is, (on_place (suc i) (j + found.named.1) (below_inputs (suc i) last) (subst (λ w. j + w < scale.amounts) found.is.weight few), tt)));
@@ -190,11 +190,11 @@ module _ (net : Net) (cost : ℕ → ℕ) (log : Log) (n : ℕ) (names : List (�
   abbrev IsOneOf : Clause → Type 0
   IsOneOf clause = (named : List (LiteralOf CostMeaning)) × IsFamily named × ReadsBy (cost_names names scale) clause named
 
-  instance_of : (clause : Clause) → Contains asks.clauses clause ⊎ Contains asks.weighing clause → IsOneOf clause
-  instance_of clause (inl here) =
+  limit_instance : (clause : Clause) → Contains asks.clauses clause ⊎ Contains asks.weighing clause → IsOneOf clause
+  limit_instance clause (inl here) =
       let found = all_at (λ c. (named : List NamedLiteral) × IsNamedQuestion net log n asks.asks.columns named × ReadsAs names c named) asks.clauses asks.asks.question.code.only clause here in
-      (map (lifted of_question) found.0, inl (found.0, instances_of net log n asks.asks.columns found.0 found.1, refl), of_clause clause found.0 found.2)
-  instance_of clause (inr there) =
+      (map (lifted of_question) found.0, inl (found.0, instances_of net log n asks.asks.columns found.0 found.1, refl), question_reads clause found.0 found.2)
+  limit_instance clause (inr there) =
       let found = all_at (λ c. (which : WeightClause) × IsWeightClause asks.inputs scale.amounts which × (weight_clause (place_variable scale) which ≡ c)) asks.weighing asks.weights.only clause there in
       let is = weighing_reads found.0 found.1 in
       (weighing_clause is.which, inr (is.which, is.written, refl), subst (λ c. ReadsBy (cost_names names scale) c (weighing_clause is.which)) found.2 is.reads)
@@ -202,7 +202,7 @@ module _ (net : Net) (cost : ℕ → ℕ) (log : Log) (n : ℕ) (names : List (�
   -- ---- what is assumed
 
   guards_read : ReadsBy (cost_names names scale) assumed (map (lifted of_question) (guard_literals net log))
-  guards_read = subst (λ named. ReadsBy (cost_names names scale) assumed (map (lifted of_question) named)) (append-nil (guard_literals net log)) (of_clause assumed (guard_literals net log ++ []) asks.asks.assumes)
+  guards_read = subst (λ named. ReadsBy (cost_names names scale) assumed (map (lifted of_question) named)) (append-nil (guard_literals net log)) (question_reads assumed (guard_literals net log ++ []) asks.asks.assumes)
 
   limit_reads : (b : ℕ) → b < scale.amounts → 0 < scale.inputs → ReadsBy (cost_names names scale) (cost_limit scale (Some b)) (limit_literals (length (named_weights net cost log n)) (Some b))
   limit_reads b few some = by (length (named_weights net cost log n)) (asks.counted ∙ inputs_are)
@@ -215,20 +215,20 @@ module _ (net : Net) (cost : ℕ → ℕ) (log : Log) (n : ℕ) (names : List (�
           subst (λ k. ReadsBy (cost_names names scale) (negative (place_variable scale k b) ∷ []) (fails (weighs i b) ∷ [])) (sym last)
           (reads_zip (cost_names names scale) (negative (place_variable scale i b) ∷ []) (fails (weighs i b) ∷ []) (off_place i b inside few, tt))
 
-  drawn_by : (bound : Option ℕ) → ReadsBy (cost_names names scale) (cost_limit scale bound) (limit_literals (length (named_weights net cost log n)) bound) →
+  drawn_with_limit : (bound : Option ℕ) → ReadsBy (cost_names names scale) (cost_limit scale bound) (limit_literals (length (named_weights net cost log n)) bound) →
       AreDrawnBy (cost_names names scale) whole (assumed ++ cost_limit scale bound) IsFamily (cost_literals net log (length (named_weights net cost log n)) bound)
-  drawn_by bound limit = record {
+  drawn_with_limit bound limit = record {
     once = names_once;
-    instances = all_from IsOneOf whole (λ clause in'. instance_of clause ((asks.both clause).0 in'));
+    instances = all_from IsOneOf whole (λ clause in'. limit_instance clause ((asks.both clause).0 in'));
     assumes = reads_both (cost_names names scale) assumed (cost_limit scale bound) (map (lifted of_question) (guard_literals net log)) (limit_literals (length (named_weights net cost log n)) bound) guards_read limit;
   }
 
   pub drawn_unbounded : AreDrawnBy (cost_names names scale) whole (assumed ++ cost_limit scale None) (IsCostClause net log n (named_weights net cost log n) (1 + MOST_COST)) (cost_literals net log (length (named_weights net cost log n)) None)
-  drawn_unbounded = drawn_by None (record { only = tt; all = tt })
+  drawn_unbounded = drawn_with_limit None (record { only = tt; all = tt })
 
   pub drawn_bounded : (b : ℕ) → b < scale.amounts → 0 < scale.inputs →
       AreDrawnBy (cost_names names scale) whole (assumed ++ cost_limit scale (Some b)) (IsCostClause net log n (named_weights net cost log n) (1 + MOST_COST)) (cost_literals net log (length (named_weights net cost log n)) (Some b))
-  drawn_bounded b few some = drawn_by (Some b) (limit_reads b few some)
+  drawn_bounded b few some = drawn_with_limit (Some b) (limit_reads b few some)
 
 -- ---- what can't be an axiom
 

@@ -77,10 +77,10 @@ log_among : (steps : CodedSteps) (code : CodedLog) (counter : CounterState) → 
 log_among steps code counter entry in' = Contains-append_right (code_meanings steps) (log_meanings code ++ counter_meanings counter) entry (Contains-append_left (log_meanings code) (counter_meanings counter) entry in')
 
 -- each input is a variable that was made
-pub inputs_below : (cost : ℕ → ℕ) (steps : CodedSteps) (code : CodedLog) (counter : CounterState) (vars : ℕ) (axioms : List Clause) (inputs : List Weighted) → AreParts steps code counter vars axioms → AreWeightedInputs steps code cost inputs →
+pub weighted_below : (cost : ℕ → ℕ) (steps : CodedSteps) (code : CodedLog) (counter : CounterState) (vars : ℕ) (axioms : List Clause) (inputs : List Weighted) → AreParts steps code counter vars axioms → AreWeightedInputs steps code cost inputs →
     AllByRecursion (λ (x : Weighted). x.input.var < vars) inputs
 unfolding bare
-inputs_below cost steps code counter vars axioms inputs parts weighted =
+weighted_below cost steps code counter vars axioms inputs parts weighted =
     let names = whole_meanings steps code counter in
     let own = bare cost steps code inputs weighted in
     let naming = together_one_naming steps code counter parts.together in

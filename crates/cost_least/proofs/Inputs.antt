@@ -88,15 +88,15 @@ read_length names (l ∷ lits) read h =
 
 -- ---- literals, names and weights
 
-one_event : (grid : Grid) (cost e : ℕ) (ts : List ℕ) → map (λ (x : Weighted). x.input) (map (λ t. record { input = event_literal grid e t; weight = cost }) ts) ≡ map (event_literal grid e) ts
-one_event grid cost e [] = refl
-one_event grid cost e (t ∷ ts) = ap (λ xs. event_literal grid e t ∷ xs) (one_event grid cost e ts)
+event_inputs : (grid : Grid) (cost e : ℕ) (ts : List ℕ) → map (λ (x : Weighted). x.input) (map (λ t. record { input = event_literal grid e t; weight = cost }) ts) ≡ map (event_literal grid e) ts
+event_inputs grid cost e [] = refl
+event_inputs grid cost e (t ∷ ts) = ap (λ xs. event_literal grid e t ∷ xs) (event_inputs grid cost e ts)
 
 pub fault_lits : (grid : Grid) (cost : ℕ → ℕ) (es : List ℕ) → map (λ (x : Weighted). x.input) (flat_map (λ e. event_weights grid (cost e) e) es) ≡ flat_map (event_literals grid) es
 fault_lits grid cost [] = refl
 fault_lits grid cost (e ∷ es) =
     map-append (λ (x : Weighted). x.input) (event_weights grid (cost e) e) (flat_map (λ f. event_weights grid (cost f) f) es)
-    ∙ ap (λ xs. xs ++ map (λ (x : Weighted). x.input) (flat_map (λ f. event_weights grid (cost f) f) es)) (one_event grid (cost e) e (numbers_below grid.steps))
+    ∙ ap (λ xs. xs ++ map (λ (x : Weighted). x.input) (flat_map (λ f. event_weights grid (cost f) f) es)) (event_inputs grid (cost e) e (numbers_below grid.steps))
     ∙ ap (λ xs. event_literals grid e ++ xs) (fault_lits grid cost es)
 
 pub false_same : (ls : List Lit) → map (λ (x : Weighted). x.input) (map weighs_one ls) ≡ ls

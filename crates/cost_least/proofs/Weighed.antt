@@ -1,5 +1,5 @@
 -- Parts with a scale beside them: as the scale is written, as the solver searches, and behind marks.
-use Rattle.std.proofs.Common.{◌≡◌, ◌∙◌, ℕ, ◌+◌, ◌*◌, ◌≤◌, List, [], ◌++◌, map, refl, sym, ap, subst, append-nil}
+use Rattle.std.proofs.Common.{◌≡◌, ◌∙◌, ℕ, ◌+◌, ◌*◌, ◌≤◌, List, [], ◌++◌, map, refl, sym, ap, subst}
 use Rattle.event_costs.specs.declared.TheConstants.{MOST_COST}
 use Rattle.card_counter.specs.CounterState.{CounterState}
 use Rattle.sat_solve.proofs.Leaving.{searching_further, searching_none, searching_searched}
@@ -48,9 +48,6 @@ parts_weighed cost steps code counter vars next inputs amounts none all scale bo
 
     written : all ≡ scale_clauses (place_variable scale) scale.amounts inputs
     written = adds.clauses ∙ ap (λ (cs : List Clause). cs ++ scale_clauses (place_variable scale) amounts inputs) empty ∙ ap (λ (n : ℕ). scale_clauses (place_variable scale) n inputs) (sym amounts_are)
-
-pub adds_none : (book entries : List BookEntry) → entries ≡ book → AddsAxioms book entries
-adds_none book entries same = record { axioms = []; more = same ∙ sym (append-nil book) }
 
 pub adds_pushed : (book mid entries : List BookEntry) (clauses : List Clause) → mid ≡ book → entries ≡ mid ++ map axiomatic clauses → AddsAxioms book entries
 adds_pushed book mid entries clauses same pushed = record { axioms = clauses; more = pushed ∙ ap (λ (front : List BookEntry). front ++ map axiomatic clauses) same }

@@ -5,7 +5,7 @@ use Rattle.card_counter.specs.Counting.{true_count}
 use Rattle.des_base.proofs.Elements.{all_from as all_of, all_split}
 use Rattle.des_net.specs.Network.{Net, IsNetwork}
 use Rattle.fault_verdicts.proofs.Asking.{HasPosed, has_posed}
-use Rattle.fault_verdicts.proofs.Events.{few_true, run_has, true_run_of}
+use Rattle.fault_verdicts.proofs.Events.{few_inputs_true, run_has, true_run_of}
 use Rattle.fault_verdicts.proofs.Going.{belong_on, ready_after_search}
 use Rattle.fault_verdicts.proofs.Judged.{asked_beside, open_found, possible_found, refuted_found}
 use Rattle.fault_verdicts.specs.Asked.{IsPosedOf, some_step_clauses}
@@ -58,7 +58,7 @@ module _ {R : Type 0} (may : R → ℕ → Type 0) (gives : R → ℕ → ℕ �
   assumed_true_run = true_run_of parts.step parts.code.coded parts.counter are.ready.own (bound_for parts.counter k) are.guards value are.ready.clauses are.within own_true parts_true.0
 
   few_faults : true_count value parts.counter.inputs ≤ k
-  few_faults = few_true parts.step parts.code.coded parts.counter are.ready.own k (length parts.counter.inputs) are.guards value refl are.ready.beside.coded.together are.ready.clauses are.within own_true parts_true.0
+  few_faults = few_inputs_true parts.step parts.code.coded parts.counter are.ready.own k (length parts.counter.inputs) are.guards value refl are.ready.beside.coded.together are.ready.clauses are.within own_true parts_true.0
 
 -- ---- what the solver says
 

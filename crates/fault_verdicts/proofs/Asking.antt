@@ -98,9 +98,9 @@ has_posed may gives parts book net log k e there assumed are belong network vali
 pub none_signed : (grid : Grid) (e : ℕ) → no_step_literals grid e ≡ event_signed grid false e
 none_signed grid e = map_map (event_literal grid e) negation (numbers_below grid.steps)
 
-assumed_known : {R : Type 0} (may : R → ℕ → Type 0) (gives : R → ℕ → ℕ → Type 0) (parts : Parts R) (book : List BookEntry) (k e values : ℕ) (there : Bool) (assumed : List Lit) → AreAssumedOf may gives parts book k e there assumed →
+event_assumed_known : {R : Type 0} (may : R → ℕ → Type 0) (gives : R → ℕ → ℕ → Type 0) (parts : Parts R) (book : List BookEntry) (k e values : ℕ) (there : Bool) (assumed : List Lit) → AreAssumedOf may gives parts book k e there assumed →
     e < length parts.step.net.events → parts.vars ≤ values → HasValues values assumed
-assumed_known may gives parts book k e values there assumed are known more =
+event_assumed_known may gives parts book k e values there assumed are known more =
     subst (HasValues values) (sym are.whole) (All-append (λ (l : Lit). l.var < values) are.guards are.further guards (by there are.about))
   where
     asks : Asks parts.step.net parts.code.coded.log parts.step.steps (Some k) (meanings_of_parts parts) are.ready.own are.guards
@@ -119,6 +119,6 @@ assumed_known may gives parts book k e values there assumed are known more =
 pub can_search : {R : Type 0} (may : R → ℕ → Type 0) (gives : R → ℕ → ℕ → Type 0) (parts : Parts R) (book : List BookEntry) (net : Net) (log : Log) (k e : ℕ) (there : Bool) (assumed slice : List Lit) → AreAssumedOf may gives parts book k e there assumed → BelongTo net log parts → IsNetwork net → IsValidLog log →
     e < length net.events → slice ≡ assumed → CanSearch parts.solver.vars slice
 can_search may gives parts book net log k e there assumed slice are belong network valid known same = subst (CanSearch parts.solver.vars) (sym same) (record {
-  known = assumed_known may gives parts book k e parts.solver.vars there assumed are (subst (λ (m : Net). e < length m.events) (sym belong.of_steps) known) are.ready.beside.enough;
+  known = event_assumed_known may gives parts book k e parts.solver.vars there assumed are (subst (λ (m : Net). e < length m.events) (sym belong.of_steps) known) are.ready.beside.enough;
   compatible = compatible assumed (has_posed may gives parts book net log k e there assumed are belong network valid known).posed.tells.consistent;
 })

@@ -56,13 +56,13 @@ map_map f g (x ∷ xs) = ap (λ rest. g (f x) ∷ rest) (map_map f g xs)
 -- ---- the names
 
 -- which name it is, where it is one of a question
-question_name : VerdictMeaning → Meaning → Meaning
-question_name (of_question meaning) other = meaning
-question_name (occurs e literal) other = other
+verdict_question_name : VerdictMeaning → Meaning → Meaning
+verdict_question_name (of_question meaning) other = meaning
+verdict_question_name (occurs e literal) other = other
 
-question_injective : (a b : Meaning) → of_question a ≡ of_question b → a ≡ b
-unfolding question_name
-question_injective a b same = ap (λ meaning. question_name meaning a) same
+in_question_once : (a b : Meaning) → of_question a ≡ of_question b → a ≡ b
+unfolding verdict_question_name
+in_question_once a b same = ap (λ meaning. verdict_question_name meaning a) same
 
 made_once : (made : List (ℕ × ℕ)) → EachPair (λ a b. a.0 ≢ b.0) made → AreOnce (made_meanings made)
 made_once [] once = tt
@@ -80,7 +80,7 @@ made_once (entry ∷ made) once = (
 
 module _ (net : Net) (log : Log) (n k : ℕ) (names : List (ℕ × Meaning)) (grid : Grid) (made : List (ℕ × ℕ)) (whole : List Clause) (assumed : List Lit) (beside : AsksBeside net log n k names grid made whole assumed) where
   once : AreOnce (verdict_meanings names made)
-  once = once_further of_question question_injective names (made_meanings made) beside.asks.question.once (made_once made beside.made_new.once) (λ a b in' there.
+  once = once_further of_question in_question_once names (made_meanings made) beside.asks.question.once (made_once made beside.made_new.once) (λ a b in' there.
       let of' = map_from (λ (e : ℕ × ℕ). (e.0, occurs e.1 e.0)) made b there in
       let none = all_at (λ (e : ℕ × ℕ). meaning_of names e.0 ≡ None) made beside.made_new.new of'.0 of'.1 in
       let has = has_name names a beside.asks.question.once in' in
@@ -98,8 +98,8 @@ module _ (net : Net) (log : Log) (n k : ℕ) (names : List (ℕ × Meaning)) (gr
   of_made : (entry : ℕ × ℕ) → Contains made entry → Contains (verdict_meanings names made) (entry.0, occurs entry.1 entry.0)
   of_made entry in' = append_right (lifted_meanings of_question names) (made_meanings made) (entry.0, occurs entry.1 entry.0) (map_has (λ (e : ℕ × ℕ). (e.0, occurs e.1 e.0)) made entry in')
 
-  of_clause : (clause : Clause) (named : List NamedLiteral) → ReadsAs names clause named → ReadsBy (verdict_meanings names made) clause (map in_question named)
-  of_clause clause named reads = lifted_reads of_question names (made_meanings made) clause named reads
+  in_question_reads : (clause : Clause) (named : List NamedLiteral) → ReadsAs names clause named → ReadsBy (verdict_meanings names made) clause (map in_question named)
+  in_question_reads clause named reads = lifted_reads of_question names (made_meanings made) clause named reads
 
   steps_are : grid.steps ≡ n
   steps_are = beside.gridded.0
@@ -118,17 +118,17 @@ module _ (net : Net) (log : Log) (n k : ℕ) (names : List (ℕ × Meaning)) (gr
       (subst (λ m. ReadsBy (verdict_meanings names made) (map (λ t. negation (event_literal grid e t)) (numbers_below m)) (no_step n e)) (sym steps_are)
       (reads_map (verdict_meanings names made) (λ t. negation (event_literal grid e t)) (λ t. fails (of_question (happens e (suc t)))) n (λ t less. record { named = of_event e t known less; sign = refl })))
 
-  drawn_by : (e : ℕ) (question : Question) (further : List Lit) → ReadsBy (verdict_meanings names made) further (assumed_of n e question) → AreDrawnBy (verdict_meanings names made) whole (assumed ++ further) (IsVerdictClause net log n) (verdict_literals net log n k e question)
-  drawn_by e question further reads = record {
+  drawn_with_event : (e : ℕ) (question : Question) (further : List Lit) → ReadsBy (verdict_meanings names made) further (assumed_of n e question) → AreDrawnBy (verdict_meanings names made) whole (assumed ++ further) (IsVerdictClause net log n) (verdict_literals net log n k e question)
+  drawn_with_event e question further reads = record {
     once = once;
     instances = all_from (λ clause. (named : List (LiteralOf VerdictMeaning)) × IsVerdictClause net log n named × ReadsBy (verdict_meanings names made) clause named) whole (λ clause in'. by clause ((beside.both clause).0 in'));
-    assumes = reads_both (verdict_meanings names made) assumed further (map in_question (assumption_literals net log n (Some k))) (assumed_of n e question) (of_clause assumed (assumption_literals net log n (Some k)) beside.asks.assumes) reads;
+    assumes = reads_both (verdict_meanings names made) assumed further (map in_question (assumption_literals net log n (Some k))) (assumed_of n e question) (in_question_reads assumed (assumption_literals net log n (Some k)) beside.asks.assumes) reads;
   }
     where
       by : (clause : Clause) → Contains beside.clauses clause ⊎ Contains (some_step_clauses grid made) clause → (named : List (LiteralOf VerdictMeaning)) × IsVerdictClause net log n named × ReadsBy (verdict_meanings names made) clause named
       by clause (inl here) =
           let found = all_at (λ c. (named : List NamedLiteral) × IsNamedQuestion net log n beside.asks.columns named × ReadsAs names c named) beside.clauses beside.asks.question.code.only clause here in
-          (map in_question found.0, inl (found.0, instances_of net log n beside.asks.columns found.0 found.1, refl), of_clause clause found.0 found.2)
+          (map in_question found.0, inl (found.0, instances_of net log n beside.asks.columns found.0 found.1, refl), in_question_reads clause found.0 found.2)
       by clause (inr there) =
           let of' = map_from (some_step_clause grid) made clause there in
           let fault = all_at (λ (x : ℕ × ℕ). is_fault net x.1 ≡ true) made beside.made_new.faults of'.0 of'.1 in
@@ -139,12 +139,12 @@ events_are_posed net log n k names grid made whole assumed network valid beside 
   without_event = λ e known. record {
     tells = without_told net log n k names grid made whole assumed network valid beside e known;
     meanings = verdict_meanings names made;
-    drawn = drawn_by net log n k names grid made whole assumed beside e without (no_step_literals grid e) (none_reads net log n k names grid made whole assumed beside e known);
+    drawn = drawn_with_event net log n k names grid made whole assumed beside e without (no_step_literals grid e) (none_reads net log n k names grid made whole assumed beside e known);
   };
   with_event = λ var e in'. record {
     tells = with_told net log n k names grid made whole assumed network valid beside var e in';
     meanings = verdict_meanings names made;
-    drawn = drawn_by net log n k names grid made whole assumed beside e (with_event var) (positive var ∷ [])
+    drawn = drawn_with_event net log n k names grid made whole assumed beside e (with_event var) (positive var ∷ [])
         (reads_one (verdict_meanings names made) (positive var) (holds (occurs e var)) (record { named = of_made net log n k names grid made whole assumed beside (var, e) in'; sign = refl }));
   };
 }

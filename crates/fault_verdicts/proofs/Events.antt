@@ -7,7 +7,8 @@ use Rattle.card_counter.specs.Counting.{true_count}
 use Rattle.des_base.proofs.Elements.{all_from as all_of, here_first}
 use Rattle.des_net.specs.Network.{Net, IsNetwork}
 use Rattle.des_net.specs.Width.{joined}
-use Rattle.fault_verdicts.proofs.Truths.{happened, happening}
+use Rattle.question_clauses.proofs.Happening.{happened}
+use Rattle.fault_verdicts.proofs.Truths.{happening}
 use Rattle.fault_verdicts.specs.Judging.{at_most_of}
 use Rattle.least_faults.specs.Asking.{AreAssumptions, bound_part}
 use Rattle.question_clauses.proofs.Lists.{all_at}
@@ -97,14 +98,14 @@ true_run_of steps code counter own bound assumed value clauses assumptions all l
 }
 
 -- no more inputs are true than the bound says
-pub few_true : (steps : CodedSteps) (code : CodedLog) (counter : CounterState) (own : List Clause) (k m : ℕ) (assumed : List Lit) (value : ℕ → Bool) → length counter.inputs ≡ m → AreCodedTogether steps code counter → AreClausesOf steps code counter own →
+pub few_inputs_true : (steps : CodedSteps) (code : CodedLog) (counter : CounterState) (own : List Clause) (k m : ℕ) (assumed : List Lit) (value : ℕ → Bool) → length counter.inputs ≡ m → AreCodedTogether steps code counter → AreClausesOf steps code counter own →
     AreAssumptions code counter (at_most_of m k) assumed → AllClausesTrue value own → AllLiteralsTrue value assumed → true_count value counter.inputs ≤ k
-few_true steps code counter own k zero assumed value none together clauses assumptions all literals = no_inputs counter.inputs none
+few_inputs_true steps code counter own k zero assumed value none together clauses assumptions all literals = no_inputs counter.inputs none
   where
     no_inputs : (inputs : List Lit) → length inputs ≡ 0 → true_count value inputs ≤ k
     no_inputs [] h = omega arith
     no_inputs (l ∷ inputs) h = absurd (omega (arith, h))
-few_true steps code counter own k (suc m) assumed value some together clauses assumptions all literals =
+few_inputs_true steps code counter own k (suc m) assumed value some together clauses assumptions all literals =
     let there = append_right assumptions.guards (bound_literal counter k ∷ []) (bound_literal counter k) (here_first (bound_literal counter k) [] (bound_literal counter k) refl) in
     let within = all_at (λ l. IsTrue (literal_true value l)) assumed literals (bound_literal counter k) (subst (λ ys. Contains ys (bound_literal counter k)) (sym assumptions.whole) there) in
     ((counter_is_exact counter together.counted).bounded k assumptions.column value).0

@@ -97,8 +97,8 @@ open_found axioms clauses earlier since net log n k e budget first there assumed
 -- ---- a model
 
 -- where the event is false in each step by assumption, no variable of it is true
-none_shown : (grid : Grid) (e : ℕ) (further : List Lit) (value : ℕ → Bool) → AllLiteralsTrue value further → further ≡ no_step_literals grid e → (t : ℕ) → t < grid.steps → value (grid_variable grid e (suc t)) ≡ true → ⊥
-none_shown grid e further value literals is t less on =
+no_step_true : (grid : Grid) (e : ℕ) (further : List Lit) (value : ℕ → Bool) → AllLiteralsTrue value further → further ≡ no_step_literals grid e → (t : ℕ) → t < grid.steps → value (grid_variable grid e (suc t)) ≡ true → ⊥
+no_step_true grid e further value literals is t less on =
     let in' = map_has negation (event_literals grid e) (event_literal grid e t) (map_has (event_literal grid e) (numbers_below grid.steps) t (in_numbers grid.steps t less)) in
     let off = all_at (λ l. IsTrue (literal_true value l)) further literals (negation (event_literal grid e t)) (subst (λ ls. Contains ls (negation (event_literal grid e t))) (sym is) in') in
     by (value (grid_variable grid e (suc t))) off on
@@ -132,7 +132,7 @@ possible_found axioms clauses earlier since net log n k e budget first other the
 
     by : (b : Bool) → b ≡ true ↔ Contains (word_of first) e → IsAbout b made grid e further → IsPossibleFound net log n k e first other
     by true told is =
-        let out : Contains (word_of other) e → ⊥ = λ in'. let some = has.0 in' in none_shown grid e further value literals is some.0 (subst (λ m. some.0 < m) (sym time) some.1) some.2 in record {
+        let out : Contains (word_of other) e → ⊥ = λ in'. let some = has.0 in' in no_step_true grid e further value literals is some.0 (subst (λ m. some.0 < m) (sym time) some.1) some.2 in record {
           possible = record {
             somewhere = record { k = k; word = word_of first; order = order_of log first; best = best.best; has = told.0 refl };
             not_everywhere = record { k = k; word = word_of other; order = order_of log other; best = is_best; without = out };

@@ -25,8 +25,8 @@ use Rattle.step_encode.specs.Coded.{CodedSteps, code_grid}
 use Rattle.proof_ledger.proofs.AxiomLists.{clauses_added}
 
 -- what the loop wrote behind the new literal is the clause of the event
-pub clause_is : (steps : CodedSteps) (grid : Grid) (vars e : ℕ) (none first whole : List Lit) (l : Lit) → none ≡ [] → first ≡ none ++ l ∷ [] → l ≡ record { var = vars; positive = false } → grid ≡ code_grid steps → whole ≡ first ++ event_signed grid true e → whole ≡ some_step_clause (code_grid steps) (vars, e)
-clause_is steps grid vars e none first whole l empty pushed literal is written =
+pub some_step_written : (steps : CodedSteps) (grid : Grid) (vars e : ℕ) (none first whole : List Lit) (l : Lit) → none ≡ [] → first ≡ none ++ l ∷ [] → l ≡ record { var = vars; positive = false } → grid ≡ code_grid steps → whole ≡ first ++ event_signed grid true e → whole ≡ some_step_clause (code_grid steps) (vars, e)
+some_step_written steps grid vars e none first whole l empty pushed literal is written =
     written
     ∙ ap (λ (g : Grid). first ++ event_signed g true e) is
     ∙ ap (λ (ls : List Lit). ls ++ event_signed (code_grid steps) true e) (pushed ∙ ap (λ (ls : List Lit). ls ++ l ∷ []) empty ∙ ap (λ (x : Lit). x ∷ []) literal)

@@ -294,7 +294,7 @@ ready_with_literal may gives parts solver vars book entries made e with' known f
         by (inr none) = absurd (none_in_nil b none)
 
 -- the new clause is over variables that were made
-pub literal_below : {R : Type 0} (may : R → ℕ → Type 0) (gives : R → ℕ → ℕ → Type 0) (parts : Parts R) (book : List BookEntry) (made : List (ℕ × ℕ)) (e values : ℕ) → AreReadyWith may gives parts book made → e < length parts.step.net.events → parts.vars < values →
+pub event_clause_below : {R : Type 0} (may : R → ℕ → Type 0) (gives : R → ℕ → ℕ → Type 0) (parts : Parts R) (book : List BookEntry) (made : List (ℕ × ℕ)) (e values : ℕ) → AreReadyWith may gives parts book made → e < length parts.step.net.events → parts.vars < values →
     HasValues values (some_step_clause (code_grid parts.step) (parts.vars, e))
-literal_below may gives parts book made e values with' known less =
+event_clause_below may gives parts book made e values with' known less =
     All-cons (λ (l : Lit). l.var < values) (negation (positive parts.vars)) (event_literals (code_grid parts.step) e) less (events_below parts.step parts.code.coded parts.counter parts.vars values with'.beside.coded e known (omega (arith, less)))

@@ -47,14 +47,14 @@ columns_alone columns = with_columns [] columns
 none_before : (columns : ℕ) → columns ≡ 0 + columns
 none_before columns = omega arith
 
-question_is : (net : Net) (log : Log) (n columns : ℕ) → question_built net log n columns ≡ riders_built (question_built net log n 0) (columns_alone columns)
-question_is net log n columns = ap (question_built net log n) (none_before columns) ∙ sym (question_columns net log n 0 columns) ∙ sym (columns_behind (question_built net log n 0) [] columns)
+columns_ridden : (net : Net) (log : Log) (n columns : ℕ) → question_built net log n columns ≡ riders_built (question_built net log n 0) (columns_alone columns)
+columns_ridden net log n columns = ap (question_built net log n) (none_before columns) ∙ sym (question_columns net log n 0 columns) ∙ sym (columns_behind (question_built net log n 0) [] columns)
 
 pub asked_alone : (net : Net) (log : Log) (n columns : ℕ) (axioms : List Clause) → axioms ≡ question_axioms net log n columns → AreAskedOf net log n axioms
 asked_alone net log n columns axioms is = record {
   riders = columns_alone columns;
   faults = still_faults net [] columns tt;
-  listed = is ∙ ap (λ (q : BuiltQuestion). q.axioms) (question_is net log n columns);
+  listed = is ∙ ap (λ (q : BuiltQuestion). q.axioms) (columns_ridden net log n columns);
 }
 
 -- of parts that belong to network and log
@@ -67,7 +67,7 @@ built_at_first net log parts book belong built = record {
   faults = still_faults parts.step.net [] (length parts.counter.columns) tt;
   determined =
       built.determined
-      ∙ question_is net log parts.step.steps (length parts.counter.columns)
+      ∙ columns_ridden net log parts.step.steps (length parts.counter.columns)
       ∙ ap (λ (q : BuiltQuestion). riders_built q (columns_alone (length parts.counter.columns))) (sym (of_parts net log parts.step.steps parts belong refl));
 }
 

@@ -21,7 +21,8 @@ use Rattle.run_decode.proofs.Tells.{ridden_tells, consistent_by, unnamed, guards
 use Rattle.run_decode.specs.Faithful.{MakesTrue}
 use Rattle.run_decode.specs.Tells.{Tells}
 use Rattle.step_encode.specs.FaultInputs.{event_literal, event_literals}
-use Rattle.fault_verdicts.proofs.Truths.{happened, happening, event_is, some_true, true_some}
+use Rattle.question_clauses.proofs.Happening.{happened}
+use Rattle.fault_verdicts.proofs.Truths.{happening, happening_is, some_true, true_some}
 use Rattle.fault_verdicts.specs.Asked.{asked_for, without, with_event, some_step_clause, some_step_clauses, no_step_literals}
 use Rattle.fault_verdicts.specs.Telling.{IsEventGrid, AreMade, AsksBeside}
 
@@ -84,7 +85,7 @@ no_step_off net n names grid gridded e known value given none l in' =
     let outer = map_from negation (event_literals grid e) l in' in
     let inner = map_from (event_literal grid e) (numbers_below grid.steps) outer.0 outer.1 in
     let less = subst (λ m. inner.0 < m) gridded.0 (from_numbers grid.steps inner.0 inner.1) in
-    let is = event_is net n names grid gridded assignment value (assignments_match names value given) e inner.0 known less ∙ none inner.0 less in
+    let is = happening_is net n names grid gridded assignment value (assignments_match names value given) e inner.0 known less ∙ none inner.0 less in
     let low : assignment (event_literal grid e inner.0).var ≡ false = sym (beq_true (assignment (event_literal grid e inner.0).var)) ∙ is in
     subst (λ (m : Lit). IsTrue (literal_true assignment m)) outer.2 (subst (λ (m : Lit). IsTrue (literal_true assignment (negation m))) inner.2
     (beq_false (assignment (event_literal grid e inner.0).var) ∙ ap not low))
@@ -112,7 +113,7 @@ module _ (net : Net) (n : ℕ) (names : List (ℕ × Meaning)) (once : HasEachOn
       by assignment makes t less =
           let there = map_has negation (event_literals grid e) (event_literal grid e t) (map_has (event_literal grid e) (numbers_below grid.steps) t (in_numbers grid.steps t (subst (λ m. t < m) (sym gridded.0) less))) in
           let on = all_at (λ l. IsTrue (literal_true assignment l)) (no_step_literals grid e) makes.assumed_true (negation (event_literal grid e t)) there in
-          let is = event_is net n names grid gridded assignment (value_by names assignment) (values_match names once assignment) e t known less in
+          let is = happening_is net n names grid gridded assignment (value_by names assignment) (values_match names once assignment) e t known less in
           sym is ∙ beq_true (assignment (event_literal grid e t).var) ∙ low (assignment (event_literal grid e t).var) on
         where
           low : (b : Bool) → beq b false ≡ true → b ≡ false

@@ -1,11 +1,11 @@
 -- The truth of the events of steps, by name and by variable.
-use Rattle.std.proofs.Common.{◌≡◌, ◌∙◌, ◌⊎◌, inl, inr, ℕ, zero, suc, ◌+◌, ◌<◌, Bool, true, List, [], ◌∷◌, length, sym, ap, subst, arith, Contains}
+use Rattle.std.proofs.Common.{◌≡◌, ◌∙◌, ℕ, zero, suc, ◌+◌, ◌<◌, Bool, true, List, [], ◌∷◌, length, sym, ap, subst, arith, Contains}
 use Rattle.std.specs.List.{list_any}
 use Rattle.des_net.specs.Network.{Net}
 use Rattle.des_net.specs.Width.{joined}
-use Rattle.des_base.proofs.Elements.{map_from, map_has, none_in_nil, any_has, has_any}
+use Rattle.des_base.proofs.Elements.{map_from, map_has, any_has, has_any}
 use Rattle.des_base.proofs.BoolLemmas.{beq_true}
-use Rattle.std.proofs.lemmas.List.Elements.{Contains-append_cases as append_cases, Contains-append_left as append_left, Contains-append_right as append_right}
+use Rattle.std.proofs.lemmas.List.Elements.{Contains-append_left as append_left, Contains-append_right as append_right}
 use Rattle.question_clauses.proofs.Pieces.{AreFrom, pieces_are_steps}
 use Rattle.prop_core.specs.Clauses.{literal_true}
 use Rattle.prop_core.specs.NamedClauses.{Match}
@@ -19,19 +19,6 @@ use Rattle.fault_verdicts.specs.Telling.{IsEventGrid}
 
 -- ---- in the steps
 
--- the events of the pieces are those that happen in some step
-from_has : (net : Net) (value : Meaning → Bool) (s : ℕ) (pieces : List (List ℕ)) → AreFrom net value s pieces → (e : ℕ) → Contains (joined pieces) e → (t : ℕ) × (t < length pieces) × (value (happens e (suc (s + t))) ≡ true)
-from_has net value s [] are e in' = absurd (none_in_nil e in')
-from_has net value s (piece ∷ pieces) are e in' = by (append_cases piece (joined pieces) e in') (from_has net value (suc s) pieces are.1 e)
-  where
-    by : Contains piece e ⊎ Contains (joined pieces) e → (Contains (joined pieces) e → (t : ℕ) × (t < length pieces) × (value (happens e (suc (suc s + t))) ≡ true)) →
-        (t : ℕ) × (t < suc (length pieces)) × (value (happens e (suc (s + t))) ≡ true)
-    by (inl here) later = let same : s ≡ s + 0 = omega arith in (0, omega arith, subst (λ r. value (happens e (suc r)) ≡ true) same ((are.0.exact e).0 here).1)
-    by (inr rest) later =
-        let found = later rest in
-        let same : suc s + found.0 ≡ s + suc found.0 = omega arith in
-        (suc found.0, omega (arith, found.1), subst (λ r. value (happens e (suc r)) ≡ true) same found.2)
-
 has_from : (net : Net) (value : Meaning → Bool) (s : ℕ) (pieces : List (List ℕ)) → AreFrom net value s pieces → (e t : ℕ) → e < length net.events → t < length pieces → value (happens e (suc (s + t))) ≡ true → Contains (joined pieces) e
 has_from net value s [] are e t known less is = absurd (omega arith)
 has_from net value s (piece ∷ pieces) are e zero known less is =
@@ -40,13 +27,6 @@ has_from net value s (piece ∷ pieces) are e zero known less is =
 has_from net value s (piece ∷ pieces) are e (suc t) known less is =
     let same : s + suc t ≡ suc s + t = omega arith in
     append_right piece (joined pieces) e (has_from net value (suc s) pieces are.1 e t known (omega arith) (subst (λ r. value (happens e (suc r)) ≡ true) same is))
-
-pub happened : (net : Net) (n : ℕ) (value : Meaning → Bool) (pieces : List (List ℕ)) → AreSteps net n value pieces → (e : ℕ) → Contains (joined pieces) e → (t : ℕ) × (t < n) × (value (happens e (suc t)) ≡ true)
-happened net n value pieces are e in' =
-    let from = (pieces_are_steps net n value pieces).0 are in
-    let found = from_has net value 0 pieces from.1 e in' in
-    let same : 0 + found.0 ≡ found.0 = omega arith in
-    (found.0, subst (λ m. found.0 < m) from.0 found.1, subst (λ r. value (happens e (suc r)) ≡ true) same found.2)
 
 pub happening : (net : Net) (n : ℕ) (value : Meaning → Bool) (pieces : List (List ℕ)) → AreSteps net n value pieces → (e t : ℕ) → e < length net.events → t < n → value (happens e (suc t)) ≡ true → Contains (joined pieces) e
 happening net n value pieces are e t known less is =
@@ -57,16 +37,16 @@ happening net n value pieces are e t known less is =
 -- ---- by variable
 
 module _ (net : Net) (n : ℕ) (names : List (ℕ × Meaning)) (grid : Grid) (gridded : IsEventGrid names net n grid) (assignment : ℕ → Bool) (value : Meaning → Bool) (match : Match names assignment value) where
-  pub event_is : (e t : ℕ) → e < length net.events → t < n → literal_true assignment (event_literal grid e t) ≡ value (happens e (suc t))
-  event_is e t known less = beq_true (assignment (event_literal grid e t).var) ∙ match (event_literal grid e t).var (happens e (suc t)) (gridded.1 e t known less)
+  pub happening_is : (e t : ℕ) → e < length net.events → t < n → literal_true assignment (event_literal grid e t) ≡ value (happens e (suc t))
+  happening_is e t known less = beq_true (assignment (event_literal grid e t).var) ∙ match (event_literal grid e t).var (happens e (suc t)) (gridded.1 e t known less)
 
   pub some_true : (e t : ℕ) → e < length net.events → t < n → value (happens e (suc t)) ≡ true → list_any (literal_true assignment) (event_literals grid e) ≡ true
   some_true e t known less is = has_any (literal_true assignment) (event_literals grid e) (event_literal grid e t)
-      (map_has (event_literal grid e) (numbers_below grid.steps) t (in_numbers grid.steps t (subst (λ m. t < m) (sym gridded.0) less))) (event_is e t known less ∙ is)
+      (map_has (event_literal grid e) (numbers_below grid.steps) t (in_numbers grid.steps t (subst (λ m. t < m) (sym gridded.0) less))) (happening_is e t known less ∙ is)
 
   pub true_some : (e : ℕ) → e < length net.events → list_any (literal_true assignment) (event_literals grid e) ≡ true → (t : ℕ) × (t < n) × (value (happens e (suc t)) ≡ true)
   true_some e known is =
       let found = any_has (literal_true assignment) (event_literals grid e) is in
       let step = map_from (event_literal grid e) (numbers_below grid.steps) found.0 found.1 in
       let less = subst (λ m. step.0 < m) gridded.0 (from_numbers grid.steps step.0 step.1) in
-      (step.0, less, sym (event_is e step.0 known less) ∙ ap (literal_true assignment) step.2 ∙ found.2)
+      (step.0, less, sym (happening_is e step.0 known less) ∙ ap (literal_true assignment) step.2 ∙ found.2)

@@ -124,9 +124,9 @@ module _ (steps : CodedSteps) (code : CodedLog) (counter : CounterState) (vars :
   no_final all_learnt = none_joined (map axiomatic adds.axioms) searched.since (none_final adds.axioms) (learnt_no_final searched.since all_learnt)
 
   -- without a bound no axiom is added
-  alone : (b : Option ℕ) → IfNone b (adds.axioms ≡ []) → list_all is_learnt searched.since ≡ true → IfNone b (list_all is_learnt (map axiomatic adds.axioms ++ searched.since) ≡ true)
-  alone None none all_learnt = ap (λ axioms. list_all is_learnt (map axiomatic axioms ++ searched.since)) none ∙ all_learnt
-  alone (Some k) none all_learnt = tt
+  learnt_alone : (b : Option ℕ) → IfNone b (adds.axioms ≡ []) → list_all is_learnt searched.since ≡ true → IfNone b (list_all is_learnt (map axiomatic adds.axioms ++ searched.since) ≡ true)
+  learnt_alone None none all_learnt = ap (λ axioms. list_all is_learnt (map axiomatic axioms ++ searched.since)) none ∙ all_learnt
+  learnt_alone (Some k) none all_learnt = tt
 
   if_none : (b : Option ℕ) (P Q : Type 0) → (P → Q) → IfNone b P → IfNone b Q
   if_none None P Q f p = f p
@@ -138,7 +138,7 @@ module _ (steps : CodedSteps) (code : CodedLog) (counter : CounterState) (vars :
     finals = λ clause hints in'. absurd (no_final_in (map axiomatic adds.axioms ++ searched.since) clause hints (no_final all_learnt) in');
     few = (let none = none_counted (map axiomatic adds.axioms ++ searched.since) (no_final all_learnt) in omega (arith, none));
     none = λ not. no_final all_learnt;
-    unbounded = if_none bound (list_all is_learnt (map axiomatic adds.axioms ++ searched.since) ≡ true) (asked ≢ Refuted → list_all is_learnt (map axiomatic adds.axioms ++ searched.since) ≡ true) (λ p not. p) (alone bound none all_learnt);
+    unbounded = if_none bound (list_all is_learnt (map axiomatic adds.axioms ++ searched.since) ≡ true) (asked ≢ Refuted → list_all is_learnt (map axiomatic adds.axioms ++ searched.since) ≡ true) (λ p not. p) (learnt_alone bound none all_learnt);
   }
 
   pub asked_spent : IfNone bound (adds.axioms ≡ []) → HasPut mid new solver.Spent → IsSpent new assumed after → HasAskedBy code counter begun net log steps.steps bound old new before after Spent
@@ -167,9 +167,9 @@ module _ (steps : CodedSteps) (code : CodedLog) (counter : CounterState) (vars :
       let few = few_true value k column axioms within in
       omega (arith, few, count)
 
-  some_true : (value : ℕ → Bool) (inputs : List Lit) → 0 < true_count value inputs → 0 < length inputs
-  some_true value [] more = more
-  some_true value (l ∷ inputs) more = omega arith
+  some_input : (value : ℕ → Bool) (inputs : List Lit) → 0 < true_count value inputs → 0 < length inputs
+  some_input value [] more = more
+  some_input value (l ∷ inputs) more = omega arith
 
   pub asked_explained : (value : ℕ → Bool) (best : Best) → IfNone bound (adds.axioms ≡ []) → HasPut mid new solver.Sat → AllClausesTrue value (axioms_of mid) → AllLiteralsTrue value assumed →
       IsExplanation net log steps.steps best → best.faults ≡ true_count value counter.inputs → HasAskedBy code counter begun net log steps.steps bound old new before after (Explained best)
@@ -181,7 +181,7 @@ module _ (steps : CodedSteps) (code : CodedLog) (counter : CounterState) (vars :
     means = record {
       given = given;
       within = is_within value bound assumed assumptions.whole assumptions.column axioms literals best.faults count;
-      counted = λ more. some_true value counter.inputs (omega (arith, more, count));
+      counted = λ more. some_input value counter.inputs (omega (arith, more, count));
     };
   }
 

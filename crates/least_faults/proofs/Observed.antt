@@ -36,12 +36,12 @@ bit : Bool → ℕ
 bit b = cond b 1 0
 
 module _ (net : Net) (network : IsNetwork net) where
-  event_is : (e : ℕ) → e < length net.events → IsEvent net.components (event_at net e)
-  event_is e h = all_at (IsEvent net.components) net.events (event_at net e) network.events (Contains-get_or net.events e no_event h)
+  event_valid : (e : ℕ) → e < length net.events → IsEvent net.components (event_at net e)
+  event_valid e h = all_at (IsEvent net.components) net.events (event_at net e) network.events (Contains-get_or net.events e no_event h)
 
   touched_known : (e : ℕ) → e < length net.events → first_of (parts_of net e) < length net.components
-  touched_known e h = first_known (length net.components) (parts_of net e) (event_is e h).moving
-      (all_from (λ (part : Part). part.comp < length net.components) (parts_of net e) (λ part in'. (all_at (IsPart net.components) (parts_of net e) part (event_is e h).known in').component))
+  touched_known e h = first_known (length net.components) (parts_of net e) (event_valid e h).moving
+      (all_from (λ (part : Part). part.comp < length net.components) (parts_of net e) (λ part in'. (all_at (IsPart net.components) (parts_of net e) part (event_valid e h).known in').component))
 
   -- of the first events, those that touch a component
   touching : ℕ → ℕ → ℕ
@@ -52,7 +52,7 @@ module _ (net : Net) (network : IsNetwork net) where
   unfolding bit
   one_touches e h =
       let within = one_within (λ c. bit (touches net e c)) (numbers_below (length net.components)) (first_of (parts_of net e)) (in_numbers (length net.components) (first_of (parts_of net e)) (touched_known e h)) in
-      let touch : touches net e (first_of (parts_of net e)) ≡ true = first_there (parts_of net e) (event_is e h).moving in
+      let touch : touches net e (first_of (parts_of net e)) ≡ true = first_there (parts_of net e) (event_valid e h).moving in
       let one : bit (touches net e (first_of (parts_of net e))) ≡ 1 = one_bit (touches net e (first_of (parts_of net e))) touch in
       omega (arith, within, one)
     where

@@ -88,8 +88,8 @@ module _ {R : Type 0} (may : R → ℕ → Type 0) (gives : R → ℕ → ℕ �
   counted : parts.vars ≡ (built_within (built_of begun old) bound).vars
   counted = ap (λ (question : BuiltQuestion). question.vars) built
 
-  put_for : (other : Answer) → answer ≡ other → HasPut is.mid new other
-  put_for other same = subst (HasPut is.mid new) same is.put
+  put_as : (other : Answer) → answer ≡ other → HasPut is.mid new other
+  put_as other same = subst (HasPut is.mid new) same is.put
 
   says : (other : Answer) → answer ≡ other → IsAnswer parts.solver.assignment new is.assumed after other
   says other same = subst (IsAnswer parts.solver.assignment new is.assumed after) same is.says
@@ -97,16 +97,16 @@ module _ {R : Type 0} (may : R → ℕ → Type 0) (gives : R → ℕ → ℕ �
   pub shown_refuted : (number : ℕ) → answer ≡ solver.Unsat number → IsValidBook new → HasAsked parts (built_of begun old) net log bound old new before after Refuted
   shown_refuted number same book =
       asked_refuted parts.step parts.code.coded parts.counter parts.vars net log is.mid coded belong.of_steps network valid belong.same_log bound is.assumed is.are.assumptions old new before after is.axioms is.searched is.known (built_of begun old) refl is.are.columns listed counted
-      number (put_for (solver.Unsat number) same) (says (solver.Unsat number) same) book
+      number (put_as (solver.Unsat number) same) (says (solver.Unsat number) same) book
 
   pub shown_spent : answer ≡ solver.Spent → HasAsked parts (built_of begun old) net log bound old new before after Spent
   shown_spent same =
       asked_spent parts.step parts.code.coded parts.counter parts.vars net log is.mid coded belong.of_steps network valid belong.same_log bound is.assumed is.are.assumptions old new before after is.axioms is.searched is.known (built_of begun old) refl is.are.columns listed counted
-      (none_added bound old is.mid is.axioms is.none) (put_for solver.Spent same) (says solver.Spent same)
+      (none_added bound old is.mid is.axioms is.none) (put_as solver.Spent same) (says solver.Spent same)
 
   -- nothing is refuted where there is a model
   pub shown_none : answer ≡ solver.Sat → PutsNoFinal old new
-  shown_none same = let put = put_for solver.Sat same in axioms_and_learnt old is.mid new is.axioms (record { since = put.since; whole = put.whole; all_learnt = put.put })
+  shown_none same = let put = put_as solver.Sat same in axioms_and_learnt old is.mid new is.axioms (record { since = put.since; whole = put.whole; all_learnt = put.put })
 
   pub shown_run : answer ≡ solver.Sat → IsTrueRun parts.step parts.code.coded (value_in parts.solver.assignment)
   shown_run same =
@@ -119,4 +119,4 @@ module _ {R : Type 0} (may : R → ℕ → Type 0) (gives : R → ℕ → ℕ �
       let model = says solver.Sat same in
       let value = value_in parts.solver.assignment in
       asked_explained parts.step parts.code.coded parts.counter parts.vars net log is.mid coded belong.of_steps network valid belong.same_log bound is.assumed is.are.assumptions old new before after is.axioms is.searched is.known (built_of begun old) refl is.are.columns listed counted
-      value best (none_added bound old is.mid is.axioms is.none) (put_for solver.Sat same) (begun_true value is.mid new before after is.searched model.clauses) model.assumptions given faults
+      value best (none_added bound old is.mid is.axioms is.none) (put_as solver.Sat same) (begun_true value is.mid new before after is.searched model.clauses) model.assumptions given faults

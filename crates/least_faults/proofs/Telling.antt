@@ -77,8 +77,8 @@ bound_among net log n i j b in' = by (append_cases (guard_literals net log) (bou
 -- ---- the bound that a final clause refutes
 
 module _ (steps : CodedSteps) (code : CodedLog) (counter : CounterState) (vars : ℕ) (axioms : List Clause) (parts : AreParts steps code counter vars axioms) where
-  called : (j : ℕ) → j < length counter.columns → named_literal (whole_meanings steps code counter) (bound_literal counter j) ≡ Some (no (reaches (suc (length counter.inputs - 1)) (suc j)))
-  called j less =
+  bound_called : (j : ℕ) → j < length counter.columns → named_literal (whole_meanings steps code counter) (bound_literal counter j) ≡ Some (no (reaches (suc (length counter.inputs - 1)) (suc j)))
+  bound_called j less =
       let some = parts.together.counted.filled (omega (arith, less)) in
       let meaning = (together_one_naming steps code counter parts.together).of_counter.called (length counter.inputs - 1) j (record { input = omega (arith, some); column = less }) in
       ap (λ o. option_map (λ (meaning' : Meaning). let m : NamedLiteral = record { meaning = meaning'; positive = false } in m) o) meaning
@@ -99,5 +99,5 @@ module _ (steps : CodedSteps) (code : CodedLog) (counter : CounterState) (vars :
       by (inr found) =
           let in' = subst (λ x. Contains second x) found.is (all_at (λ l. Contains second (negation l)) clause others found.l found.there) in
           let named = named_in (whole_meanings steps code counter) second reads.read (bound_literal counter j) reads.by_name in' in
-          let is = same_Some named.m (no (reaches (suc (length counter.inputs - 1)) (suc j))) (sym named.literal ∙ called j assumptions.column) in
+          let is = same_Some named.m (no (reaches (suc (length counter.inputs - 1)) (suc j))) (sym named.literal ∙ bound_called j assumptions.column) in
           bound_among steps.net log steps.steps (suc (length counter.inputs - 1)) j b ((reads.same (no (reaches (suc (length counter.inputs - 1)) (suc j)))).0 (subst (λ m. Contains reads.read m) is named.there))

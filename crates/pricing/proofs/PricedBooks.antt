@@ -3,7 +3,7 @@ use Rattle.std.proofs.Common.{◌≡◌, ◌∙◌, ◌<◌, ◌≤◌, ◌+◌,
 use Rattle.std.specs.List.{AllByRecursion, list_any}
 use Rattle.std.proofs.Math.Nat.{pow-le-pow_right}
 use Rattle.std.proofs.lemmas.List.FromFn.{length-range_with_len}
-use Rattle.cost_least.proofs.Fitting.{first_few, inputs_below, inputs_counted}
+use Rattle.cost_least.proofs.Fitting.{first_few, weighted_below, inputs_counted}
 use Rattle.cost_least.specs.Weighed.{AreWeighedParts}
 use Rattle.answers.specs.declared.cheap.Cheap.TheVariants.{Undecided}
 use Rattle.answers.specs.declared.cheap.Priced.{Priced}
@@ -45,7 +45,7 @@ weighed_below : (cost : ℕ → ℕ) (steps : CodedSteps) (code : CodedLog) (cou
 weighed_below cost steps code counter vars axioms scale h =
     let vars_are = h.vars_are in
     let own = all_change (HasValues scale.first) (HasValues vars) h.own (λ clause. wider scale.first vars clause (omega (arith, vars_are))) (axioms_below steps code counter scale.first h.own h.coded) in
-    let weighing = (scales_are_small scale h.inputs h.counted (inputs_below cost steps code counter scale.first h.own h.inputs h.coded h.weighted)).known in
+    let weighing = (scales_are_small scale h.inputs h.counted (weighted_below cost steps code counter scale.first h.own h.inputs h.coded h.weighted)).known in
     let clauses = scale_clauses (place_variable scale) scale.amounts h.inputs in
     subst (AllByRecursion (HasValues vars)) (sym h.whole) (all_append (HasValues vars) h.own clauses own (subst (λ v. AllByRecursion (HasValues v) clauses) (sym vars_are) weighing))
 

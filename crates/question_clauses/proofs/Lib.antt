@@ -11,6 +11,7 @@ pub mod LaidOut
 pub mod StepCode
 mod StepVectors
 pub mod Pieces
+pub mod Happening
 pub mod LogOpen
 pub mod ReadNames
 pub mod LogRules

@@ -4,7 +4,7 @@ use Rattle.std.specs.List.{AllByRecursion}
 use Rattle.des_base.specs.declared.TheConstants.{VAR_LIMIT}
 use Rattle.proof_ledger.specs.Book.{axioms_of}
 use Rattle.weight_counter.specs.declared.weighted.Weighted.{Weighted}
-use Rattle.cost_least.proofs.Fitting.{scale_fits, inputs_below}
+use Rattle.cost_least.proofs.Fitting.{scale_fits, weighted_below}
 use Rattle.cost_least.specs.Searching.{AreAsked}
 use Rattle.cost_least.specs.Weighed.{AreWeighed, AreWeightedInputs}
 use Rattle.cost_least.proofs.weighing.weigh.Goals as goal
@@ -22,7 +22,7 @@ write_scale-requires-clause-below g c =
     let old = c.args.parts.now in
     let inputs = c.in_ok-inputs.ensures in
     subst (AllByRecursion (λ (x : Weighted). x.input.var < old.vars)) (sym c.as_slice.ensures.value)
-    (inputs_below inputs.cost old.step old.code.coded old.counter old.vars (axioms_of c.args.book.now.entries) c.in_ok-inputs.inputs.items c.requires.ready.coded inputs.weighted)
+    (weighted_below inputs.cost old.step old.code.coded old.counter old.vars (axioms_of c.args.book.now.entries) c.in_ok-inputs.inputs.items c.requires.ready.coded inputs.weighted)
 
 pub returns-clause-weighed : goal.returns-clause-weighed
 returns-clause-weighed g c =

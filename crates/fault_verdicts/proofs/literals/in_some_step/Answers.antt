@@ -1,6 +1,6 @@
 use Rattle.std.proofs.Common.{◌∙◌, [], true, ap, append-nil, arith, subst, sym}
 use Rattle.fault_verdicts.proofs.Making.{adds_one, clause_put, has_made, on_err}
-use Rattle.fault_verdicts.proofs.Ready.{literal_below, ready_by_solver}
+use Rattle.fault_verdicts.proofs.Ready.{event_clause_below, ready_by_solver}
 use Rattle.fault_verdicts.proofs.literals.in_some_step.Goals as goal
 use Rattle.fault_verdicts.specs.Ready.{AreReadyForVerdicts}
 use Rattle.least_faults.proofs.Columns.{reserved_ready}
@@ -35,7 +35,7 @@ add_clause-requires-clause-below g c =
     let vars = c.in_ok-reserve-2.ensures.ok.vars in
     let count = c.count.ensures.count in
     subst (HasValues c.reserve-2.new.self.vars) (sym (c.as_slice.ensures.value ∙ c.in_ok-clause.ensures))
-    (literal_below _ _ c.args.parts.now c.args.book.now.entries c.requires.ready.0 c.args.event c.reserve-2.new.self.vars c.requires.ready.1 c.requires.known (omega (arith, vars, count)))
+    (event_clause_below _ _ c.args.parts.now c.args.book.now.entries c.requires.ready.0 c.args.event c.reserve-2.new.self.vars c.requires.ready.1 c.requires.known (omega (arith, vars, count)))
 
 pub add_clause-requires-clause-spare : goal.add_clause-requires-clause-spare
 add_clause-requires-clause-spare g c = let spare = c.in_ok-reserve-2.ensures.ok.spare in omega (arith, spare)
