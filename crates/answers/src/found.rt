@@ -13,11 +13,11 @@ pub struct Best {
 /// What is found of the least number of faults that explains an alarm log.
 #[derive(Drop)]
 pub enum Found {
-    /// No explanation has fewer faults; there are at most 255.
+    /// No explanation has fewer faults; there are at most `MOST_FAULTS`.
     Explained(Best),
     /// Nothing explains the log.
     Absent,
-    /// Each explanation has more than 255 faults. This is one of them.
+    /// Each explanation has more than `MOST_FAULTS` faults. This is one of them.
     Many(Best),
     /// The budget was spent. Each explanation has at least `lo` faults; one that is known has more.
     Undecided { lo: u32, best: Option<Best> },

@@ -20,7 +20,7 @@ pub fn absent_excludes()
     ensures { AbsentExcludes }
 {}
 
-/// A least number of faults is above 255 if each explanation has more.
+/// A least number of faults is above `MOST_FAULTS` if each explanation has more.
 pub fn many_is_above()
     ensures { ManyIsAbove }
 {}

@@ -25,7 +25,7 @@ pub enum Told {
     Judged(bool),
     /// That nothing explains the log.
     NotExplained,
-    /// That all that explains it has more than 255 faults.
+    /// That all that explains it has more than `MOST_FAULTS` faults.
     TooMany,
     /// That the budget was spent.
     NotDecided,
