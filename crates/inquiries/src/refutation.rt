@@ -70,7 +70,7 @@ fn refuted_for<R: Fn(u32) -> u64>(
     match found {
         Found::Explained(best) => below(alloc, case, parts, book, best.faults),
         Found::Absent => within(alloc, case, parts, book, None),
-        Found::Many(_) => within(alloc, case, parts, book, Some(MOST_FAULTS)),
+        Found::Many(_) => within(alloc, case, parts, book, Some(MOST_FAULTS as u8)),
         Found::Undecided { lo, best } => Ok(Refuted::Undecided(Found::Undecided { lo, best })),
     }
 }
