@@ -10,12 +10,18 @@ Rooms are the blocks of crates.txt. A crate's level is the length of the longest
 it doesn't stand on it by a third one as well. What all stand on isn't drawn.
 """
 import glob
-import html
+import os
 import re
 import sys
 
+sys.path.insert(0, os.path.dirname(os.path.abspath(__file__)))
+from svg import box, picture, text  # noqa: E402
+
 ROW, BOX, GAP, HIGH, SIGN = 66, 24, 14, 7.1, 16
-COLOURS = ["#dbe9f6", "#e3f1dc", "#fbeed5", "#f6dfe0", "#e6e0f2", "#eeeeee"]
+STYLE = """text { font: 12px Helvetica, Arial, sans-serif; fill: #222; } .ground { fill: #fff; } .line { fill: none; stroke: #999; stroke-width: 0.9; } .aside { fill: #555; }
+.crate { stroke: #666; stroke-width: 0.6; } """
+# The colours of the rooms; svg.py has each for dark pages too.
+COLOURS = ["#dbe9f6", "#e3f1dc", "#fbeed5", "#f6dfe0", "#e6e0f2", "#eee"]
 
 
 def read():
@@ -115,25 +121,25 @@ def svg(rooms, stands):
     top, wide = max(level[name] for name in crates), max(at[name] + widths[name] / 2 for name in crates) + GAP
     row = {name: (top - level[name]) * ROW + GAP for name in crates}
     high = top * ROW + len(rooms) * 18
-    out = [f'<svg xmlns="http://www.w3.org/2000/svg" viewBox="0 0 {wide:.0f} {high}" role="img" font-family="Helvetica, Arial, sans-serif" font-size="12">',
-           "  <title>Which crate stands on which</title>", f'  <rect width="{wide:.0f}" height="{high}" fill="#ffffff"/>']
+    out = []
     for name in crates:
         for it in near[name]:
             low, x, y, to = row[it], at[name], row[name] + BOX, at[it]
-            out.append(f'  <path d="M{x:.0f},{y} C{x:.0f},{y + 30} {to:.0f},{low - 30} {to:.0f},{low}" fill="none" stroke="#999999" stroke-width="0.9"/>')
-    for number, (head, room) in enumerate(rooms):
+            out.append(f'<path class="line" d="M{x:.0f},{y} C{x:.0f},{y + 30} {to:.0f},{low - 30} {to:.0f},{low}"/>')
+    for number, (_, room) in enumerate(rooms):
         for name in room:
             if not is_test(name):
-                out.append(f'  <rect x="{at[name] - widths[name] / 2:.0f}" y="{row[name]}" width="{widths[name]:.0f}" height="{BOX}" rx="4" fill="{COLOURS[number]}" stroke="#666666" stroke-width="0.6"/>')
-                out.append(f'  <text x="{at[name]:.0f}" y="{row[name] + 16}" text-anchor="middle">{name}</text>')
+                out.append(box(f"crate room-{number}", at[name] - widths[name] / 2, row[name], widths[name], BOX))
+                out.append(text("", at[name], row[name] + 16, name))
     for name in base:
-        out.append(f'  <text x="{at[name] + widths[name] / 2 + 10:.0f}" y="{row[name] + 16}" fill="#555555">on which all stand</text>')
+        out.append(text("aside", at[name] + widths[name] / 2 + 10, row[name] + 16, "on which all stand", "start"))
     for number, (head, room) in enumerate(rooms):
         if not all(is_test(name) for name in room):
             y = top * ROW + number * 18
-            out.append(f'  <rect x="{GAP}" y="{y}" width="12" height="12" fill="{COLOURS[number]}" stroke="#666666" stroke-width="0.6"/>')
-            out.append(f'  <text x="{GAP + 18}" y="{y + 10}">{html.escape(head)}</text>')
-    return "\n".join([*out, "</svg>"]) + "\n"
+            out.append(box(f"crate room-{number}", GAP, y, 12, 12, round_by=0))
+            out.append(text("", GAP + 18, y + 10, head, "start"))
+    style = STYLE + " ".join(f".room-{number} {{ fill: {COLOURS[number]}; }}" for number, (_, room) in enumerate(rooms) if not all(map(is_test, room)))
+    return picture(wide, high, "Which crate stands on which", style, out) + "\n"
 
 
 # ---- looked at

@@ -1,8 +1,8 @@
-"""Tests tools/plant.py and tools/timeline.py: what they list, that their pictures are whole, and that a text with a mistake gets words and no traceback.
+"""Tests tools/plant.py, timeline.py and crates.py: what they list, that their pictures are whole, and that a text with a mistake gets words and no traceback.
 
     python3 tools/pictures_test.py
 
-What is expected is written by hand from the models and runs here; no program is needed. The pictures of all examples must be well-formed, with each element inside the frame,
+What is expected is written by hand from the models and runs here; no program is needed. The pictures of all examples and that of the crates must be well-formed, with each element inside the frame,
 and the frame not wider than a page.
 
 Status 0: all is as expected, 1: something isn't.
@@ -96,8 +96,17 @@ def examples(folder):
     return wrong
 
 
+def of_crates():
+    """The picture of the crates, which has rules for dark pages."""
+    drawn = made("crates.py", os.path.dirname(TOOLS), "--svg")
+    svg = drawn.stdout.decode()
+    if drawn.returncode:
+        return [f"crates.py: {drawn.stderr.decode()}"]
+    return [f"crates.py: {it}" for it in frame_faults(svg)] + ["crates.py: it has no rules for dark pages, or a colour beside its rules"] * ("prefers-color-scheme: dark" not in svg or re.search(r'(fill|stroke)="#', svg) is not None)
+
+
 def main():
-    wrong = []
+    wrong = of_crates()
     with tempfile.TemporaryDirectory() as folder:
         for events, wanted in ODD:
             written(folder, "m.des", HEAD + events)
@@ -116,7 +125,7 @@ def main():
             for said in [made("timeline.py", folder, "m.des", "r.run", form) for form in ("--svg", "--html")] + [made("plant.py", folder, "m.des")] * (word == "`show`"):
                 wrong += [f"{model!r}, {run!r}: {said.stderr.decode()}"] * (said.returncode != 1 or said.stdout != b"" or word not in said.stderr.decode() or b"Traceback" in said.stderr)
         wrong += examples(folder)
-    print("\n".join(wrong + [f"{len(ODD) + len(LISTED) + len(BAD)} cases of plant.py and timeline.py and the pictures of the examples, and {len(wrong)} things aren't as expected"]))
+    print("\n".join(wrong + [f"{len(ODD) + len(LISTED) + len(BAD)} cases of plant.py and timeline.py and the pictures of the examples and of the crates, and {len(wrong)} things aren't as expected"]))
     return 1 if wrong else 0
 
 

@@ -1,11 +1,12 @@
-"""Elements of the pictures that timeline.py and plant.py draw. Widths of words are reckoned, since no font is at hand."""
+"""Elements of the pictures that timeline.py, plant.py and crates.py draw. Widths of words are reckoned, since no font is at hand."""
 import re
 from html import escape
 
 CHAR, SMALL, WIDER = 7, 6, 8
 # Each colour of the light scheme with that of the dark one.
 DARK = {"fff": "16181c", "222": "e8e9eb", "f4f5f7": "1f2329", "555": "b4b9c0", "e6eef6": "263850", "f5d590": "5a4712", "333": "d5d7da", "b3261e": "ff8f85", "1f5fa8": "8fbcf2", "777": "a9adb3",
-        "fafbfc": "1b1e23", "d5d9de": "3d434b", "dfe9f3": "26384e", "6b7f94": "8da2b8", "999": "8b8f95", "666": "a2a6ac", "aaa": "7b8087", "444": "c6c9cd", "888": "9a9ea4"}
+        "fafbfc": "1b1e23", "d5d9de": "3d434b", "dfe9f3": "26384e", "6b7f94": "8da2b8", "999": "8b8f95", "666": "a2a6ac", "aaa": "7b8087", "444": "c6c9cd", "888": "9a9ea4",
+        "dbe9f6": "22384f", "e3f1dc": "27401f", "fbeed5": "4d3d14", "f6dfe0": "53282c", "e6e0f2": "3a2f58", "eee": "33373d"}
 
 
 def box(kind, x, y, width, height, title="", round_by=4):
