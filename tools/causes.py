@@ -7,7 +7,7 @@ PROGRAM is the compiled program, crates/diagnose_cli/out/diagnose_cli, N at most
 Of each alarm: the least number of faults before it or with it, and all sets of so many, as tools/sets.py lists them. `diagnose` is asked about a log with this alarm alone, of the model in which no other label is seen.
 Of each event: whether it can happen at all, asked in the same way. Of each fault: the alarms that point to it, which are those with a set that has it; by which alarm after it, up to AFTER, it is known that a fault happened (no run without a fault looks alike), and
 known that it was this one (no run with another single fault does); `-` if not even by the last. `twin` is asked of the model with this fault alone, and of the model with one fault in all. Where so many alarms can't follow
-the fault within N steps, nothing is known, and a `?` says so. A terminal shows on standard error which of them is asked about. This script is no part of what is proved; each of its questions is answered by the program.
+the fault within N steps, nothing is known, and a `?` says so. A terminal shows on standard error which of them is asked about. Its many questions are small, so the models are asked about as they are written. This script is no part of what is proved; each of its questions is answered by the program.
 
 Status 0: all was answered, 11: a budget was spent, and the line says so, and otherwise that of the program on the model.
 """
@@ -118,7 +118,7 @@ class Asked:
         model = self.plant.seeing({name for name, event in self.plant.events.items() if event.label == label})
         found = set()
         try:
-            if not sets(Question(self.program.path, model, LOG, self.n, self.budget), found):
+            if not sets(Question(self.program.path, model, LOG, self.n, self.budget, self.program.as_written), found):
                 return None, []
         except Ended as ended:
             if ended.status != 11:
@@ -192,7 +192,7 @@ def main(words):
         sys.stderr.write(__doc__)
         return 2
     n, after, budget = map(int, words[2:])
-    program, progress = Program(words[0]), Progress()
+    program, progress = Program(words[0], as_written=True), Progress()
     try:
         asked = Asked(program, Plant(program.show(words[1])), n, after, budget, progress)
         for place, part in enumerate(listed(asked)):

@@ -6,10 +6,11 @@
     answer = program.diagnose("examples/first/model.des", "examples/first/log.csv", 3, 1000)
     print(answer.kind, answer.most, [step.event for step in answer.run])
 
-    python3 tools/program.py PROGRAM COMMAND WORDS..
+    python3 tools/program.py [--as-written] PROGRAM COMMAND WORDS..
 
 A method has the name and the words of a command, all thirteen. A file is named by its path, or given as `Text`, which is written to a file that lasts as long as the call; what `cnf`, `proof`, `show` and `generate` print is
 such a text. An answer to a question is a value, `NONE` and `UNDECIDED` among them; what is no answer is raised: `Refused` has the reply, such as `MODEL 12 5`, and `Late` says that the call took too long and was stopped.
+A question (`diagnose`, `verdicts`, `cheapest`, `session`, `twin`) is asked of the model as refine.py writes it, which is answered sooner and has the same answers, unless no component is added there or the finer model is too large; with `as_written` or --as-written it is always asked as written. `cnf` and `proof` are about the model as it is written.
 Called from a shell, this prints the answer as one JSON object, an object a line for a session, and ends with the program's status; words that would raise `Refused` give an object too.
 
 `replies_of` reads what the program prints, for this module and for the other tools. This module is no part of what is proved.
@@ -24,6 +25,10 @@ import time
 from dataclasses import asdict, dataclass
 from itertools import islice
 from typing import Optional
+
+sys.path.insert(0, os.path.dirname(os.path.abspath(__file__)))
+from refine import finer_in  # noqa: E402
+from texts import as_written_in, contents  # noqa: E402
 
 WITHOUT_ANSWER = {1, 2, 3, 4, 5, 6, 7, 8, 9, 15, 16}
 TICK = 1.0
@@ -185,11 +190,16 @@ def answer_of(reply, status):
     return Answer(status, kind, run=run, why=reply.words[1:] if kind in ("REJECTED", "REFUSED") else ())
 
 
-class Program:
-    """The compiled program. A call may take so many seconds; without a number it may take as long as it likes. While it works, `waiting` is called each second with the seconds that have passed."""
+# The row of a session with which its question would be too large.
+TOO_LARGE = ("REFUSED", "8")
 
-    def __init__(self, path, seconds=None, waiting=None):
-        self.path, self.seconds, self.waiting = path, seconds, waiting
+
+class Program:
+    """The compiled program. A call may take so many seconds; without a number it may take as long as it likes. While it works, `waiting` is called each second with the seconds that have passed. If `as_written`, no question is asked of a finer model."""
+
+    def __init__(self, path, seconds=None, waiting=None, as_written=False):
+        self.path, self.seconds, self.waiting, self.as_written = path, seconds, waiting, as_written
+        self.known = None, None
 
     def call(self, command, *words):
         """What the program prints, and its status."""
@@ -238,18 +248,50 @@ class Program:
         text, status = self.answered(command, *words)
         return list(replies_of(lines_of(text))), status
 
+    def finer(self, model):
+        """The finer model, if it has more components; None of a model with a mistake, or of what is no file, which is asked about as it is. That of the last model is kept, since many questions may be about it."""
+        try:
+            if not isinstance(model, Text) and not os.path.isfile(model):
+                return None
+            text = model if isinstance(model, Text) else Text(contents(model))
+        except OSError:
+            return None
+        if self.known[0] != text:
+            finer = finer_in(text)
+            # To the scripts some models are sound that have a mistake.
+            self.known = text, Text(finer) if finer is not None and self.call("show", text)[1] == 0 else None
+        return self.known[1]
+
+    def asked(self, command, model, *words):
+        """The replies to a question about a model, and their status. It is asked of the finer model, and as written if there is none or it is too large."""
+        finer = None if self.as_written else self.finer(model)
+        if finer is not None:
+            try:
+                replies, status = self.replies(command, finer, *words)
+                if all(it.words != TOO_LARGE for it in replies):
+                    return replies, status
+            except Refused as fault:
+                if fault.words[:1] != ["LARGE"]:
+                    raise
+        return self.replies(command, model, *words)
+
     def one(self, command, *words):
         replies, status = self.replies(command, *words)
+        return answer_of(replies[0], status)
+
+    def best(self, command, model, *words):
+        """The one answer to a question about a model."""
+        replies, status = self.asked(command, model, *words)
         return answer_of(replies[0], status)
 
     def text(self, command, *words):
         return Text(self.answered(command, *words)[0])
 
     def diagnose(self, model, log, n, budget):
-        return self.one("diagnose", model, log, n, budget)
+        return self.best("diagnose", model, log, n, budget)
 
     def cheapest(self, model, log, costs, n, budget):
-        return self.one("cheapest", model, log, costs, n, budget)
+        return self.best("cheapest", model, log, costs, n, budget)
 
     def replay(self, model, log, run, n):
         return self.one("replay", model, log, run, n)
@@ -261,18 +303,18 @@ class Program:
         return self.one("check", cnf, lrat)
 
     def verdicts(self, model, log, n, budget):
-        (first, *rest), status = self.replies("verdicts", model, log, n, budget)
+        (first, *rest), status = self.asked("verdicts", model, log, n, budget)
         by = {kind: tuple(it.words[1] for it in rest if it.kind == kind) for kind in ("CERTAIN", "POSSIBLE", "EXCLUDED", "OPEN")}
         runs = tuple(it.run for it in rest if it.run is not None)
         return Verdicts(status, answer_of(first, 0 if by["OPEN"] else status), by["CERTAIN"], by["POSSIBLE"], by["EXCLUDED"], by["OPEN"], runs)
 
     def session(self, model, script, n, budget):
         """The answers to the questions of a script, and the rows that were refused, in their order. Their status is that of the session, 0."""
-        replies, status = self.replies("session", model, script, n, budget)
+        replies, status = self.asked("session", model, script, n, budget)
         return [answer_of(it, status) for it in replies]
 
     def twin(self, model, event, n, after, budget):
-        replies, status = self.replies("twin", model, event, n, after, budget)
+        replies, status = self.asked("twin", model, event, n, after, budget)
         return Twins(status, replies[0].kind, *(it.run for it in replies if it.run is not None))
 
     def show(self, model):
@@ -311,10 +353,11 @@ def plain(value):
 
 
 def main(words):
+    words, as_written = as_written_in(words)
     if len(words) < 2:
         sys.exit(__doc__)
     try:
-        method = getattr(Program(words[0]), words[1]) if words[1] in COMMANDS else None
+        method = getattr(Program(words[0], as_written=as_written), words[1]) if words[1] in COMMANDS else None
         if method is None or len(inspect.signature(method).parameters) != len(words[2:]):
             raise Refused(2, "USAGE")
         answers = method(*words[2:])

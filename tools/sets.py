@@ -1,6 +1,6 @@
 """Lists all sets of faults by which the fewest faults explain a log, by asking `diagnose` again and again.
 
-    python3 tools/sets.py PROGRAM MODEL LOG N BUDGET [MORE]
+    python3 tools/sets.py [--as-written] PROGRAM MODEL LOG N BUDGET [MORE]
 
 PROGRAM is the compiled program, crates/diagnose_cli/out/diagnose_cli, and MODEL to BUDGET are what `diagnose` is called with. Each line is a set: how many faults, and the fault
 events by name, `! ALARM` for a false alarm, each as often as it happens.
@@ -8,6 +8,8 @@ events by name, `! ALARM` for a false alarm, each as often as it happens.
 The program finds one explanation. Any other set with as few faults lacks some fault of the first one, or has it less often; so for each of its faults the question is asked again
 of a model that allows this fault one time less, and so on from each answer: a tree of hitting sets (Reiter 1987). An event that isn't allowed at all is left out of the model, one that is allowed
 a few times counts them in a component of its own, and an alarm that isn't to be set aside is no longer doubtful.
+
+Each question is asked of its model as refine.py writes it, with the same answer, where that adds components and isn't too large; with --as-written none is.
 
 With MORE, a number, the sets with up to so many faults more are listed too, as far as no other set is part of them. Sets are those of explanations within N parallel steps, and there may be
 very many: the number of questions grows with them, and a terminal shows on standard error how far it is. This script is no part of what is proved; each of its questions is answered by the program.
@@ -24,7 +26,7 @@ from collections import Counter, deque
 sys.path.insert(0, os.path.dirname(os.path.abspath(__file__)))
 from program import Program, Refused, Text  # noqa: E402
 from progress import Progress  # noqa: E402
-from texts import Event, plural  # noqa: E402
+from texts import Event, as_written_in, plural  # noqa: E402
 
 FALSE = "!"
 PARTS = 16
@@ -49,8 +51,8 @@ def rows_of(log):
 class Question:
     """The question of `diagnose`, asked of the model and the log (paths, or texts) with limits on how often a fault may happen."""
 
-    def __init__(self, program, model, log, steps, budget):
-        self.program, self.steps, self.budget = Program(program), steps, budget
+    def __init__(self, program, model, log, steps, budget, as_written=False):
+        self.program, self.steps, self.budget = Program(program, as_written=as_written), steps, budget
         try:
             self.model = [line.split() for line in self.program.show(model).split("\n") if line]
         except Refused as fault:
@@ -88,7 +90,7 @@ class Question:
     def ask(self, limits):
         """The faults of a best explanation within these limits; None if there is none."""
         try:
-            (reply,), status = self.program.replies("diagnose", self.limited_model(limits), self.limited_log(limits), self.steps, self.budget)
+            (reply,), status = self.program.asked("diagnose", self.limited_model(limits), self.limited_log(limits), self.steps, self.budget)
         except Refused as fault:
             raise Ended(fault.ending, str(fault)) from fault
         if status == 10:
@@ -124,12 +126,13 @@ def sets(question, found, more=0, say=lambda words: None):
 
 
 def main(words):
+    words, as_written = as_written_in(words)
     if len(words) not in (5, 6) or not os.access(words[0], os.X_OK) or not all(it.isdigit() for it in words[3:]):
         sys.stderr.write(__doc__)
         return 2
     found, status, progress, why = set(), 0, Progress(), ""
     try:
-        if not sets(Question(*words[:5]), found, int(words[5]) if len(words) > 5 else 0, progress.say):
+        if not sets(Question(*words[:5], as_written), found, int(words[5]) if len(words) > 5 else 0, progress.say):
             raise Ended(10, f"NONE {words[3]}")
     except Ended as ended:
         status, why = ended.status, f"{ended}\n"

@@ -16,12 +16,15 @@ class Wrong(Exception):
     """A text that a tool can't use, in words."""
 
 
-def read(path):
-    """The text of a file, line ends and all; of standard input if the path is `-`."""
-    if path == "-":
-        return sys.stdin.buffer.read().decode("utf-8", "surrogateescape")
+def contents(path):
+    """The text of a file, line ends and all."""
     with open(path, encoding="utf-8", errors="surrogateescape", newline="") as it:
         return it.read()
+
+
+def read(path):
+    """The same; of standard input if the path is `-`."""
+    return sys.stdin.buffer.read().decode("utf-8", "surrogateescape") if path == "-" else contents(path)
 
 
 def shown(words):
@@ -122,20 +125,32 @@ def model_of(path):
     return Model(counted(path))
 
 
-def sound_model(path):
-    """The model of a text that has no mistake, as far as the tools rely on it."""
+def sound_model_in(text):
+    """The model of a text that has no mistake, as far as the tools rely on it; None if it has one."""
     try:
-        lines = counted(path)
+        lines = counted_in(text)
         model = Model(lines[1:])
         ends = all(end in model.states[name] for name, moves in model.moves.items() for start, _, to in moves for end in (start, to))
         parts = all(any(by == action for _, by, _ in model.moves[name]) for event in model.events.values() for name, action in event.parts.items())
-        if lines[0][1] == ["des", "1"] and ends and parts and all(model.inits.values()):
-            return model
+        return model if lines[0][1] == ["des", "1"] and ends and parts and all(model.inits.values()) else None
+    except (IndexError, KeyError, ValueError):
+        return None
+
+
+def sound_model(path):
+    """The same of a file, which must have such a text."""
+    try:
+        model = sound_model_in(read(path))
     except OSError as fault:
         raise Wrong(f"{path}: {fault.strerror}") from fault
-    except (IndexError, KeyError, ValueError):
-        pass
-    raise Wrong(f"{shown(path)} isn't a model text without a mistake; `show` prints its first one, and tools/explain.py says what it means")
+    if model is None:
+        raise Wrong(f"{shown(path)} isn't a model text without a mistake; `show` prints its first one, and tools/explain.py says what it means")
+    return model
+
+
+def as_written_in(words):
+    """The words of a call without `--as-written`, and whether it stood in front of them."""
+    return (words[1:], True) if words[:1] == ["--as-written"] else (words, False)
 
 
 def plural(count, word):

@@ -1,6 +1,6 @@
 """Asks again when a log has grown, and prints what is new.
 
-    python3 tools/watch.py PROGRAM MODEL LOG N BUDGET KEPT [EVERY]
+    python3 tools/watch.py [--as-written] PROGRAM MODEL LOG N BUDGET KEPT [EVERY]
 
 PROGRAM is the compiled program, crates/diagnose_cli/out/diagnose_cli, and MODEL to BUDGET are what `verdicts` is called with. N may be `+K`: K more than the log has alarms, at most 1,000. A line that isn't finished yet, since
 somebody is writing it, is left for the next time.
@@ -10,6 +10,8 @@ says something when something changed. With EVERY, a number of seconds, this scr
 
 It asks with a part of BUDGET first and then with four times as much, until the question is decided or BUDGET is spent; so it takes at most a third longer than the last call, which may take 600 seconds. On a terminal it says
 meanwhile on standard error what it is asking, for how long, and between which numbers the answer lies.
+
+It asks about the model as refine.py writes it, which is answered sooner and with the same answers, where that adds components and isn't too large; with --as-written it asks as written.
 
 If an alarm that was asked about is gone from the log or has other labels, if another call works with the same KEPT, or if KEPT holds something else, that is said on standard error; then nothing is asked, and KEPT stays as it is.
 This script is no part of what is proved.
@@ -31,7 +33,7 @@ import time
 sys.path.insert(0, os.path.dirname(os.path.abspath(__file__)))
 from program import Late, Program, Refused, Text, plain  # noqa: E402
 from progress import Progress  # noqa: E402
-from texts import Wrong, called, plural  # noqa: E402
+from texts import Wrong, as_written_in, called, plural  # noqa: E402
 
 SECONDS, LATE, MOST, FIRST, TIMES = 600, 124, 1000, 1000, 4
 # A model that couldn't be read, memory that ran out, a call that was killed: that may be otherwise the next time.
@@ -88,8 +90,8 @@ def lock_of(path):
 class Watch:
     """A log that is watched."""
 
-    def __init__(self, program, model, log, n, budget, kept):
-        self.program, self.progress = Program(program, SECONDS, self.wait), Progress()
+    def __init__(self, program, model, log, n, budget, kept, as_written=False):
+        self.program, self.progress = Program(program, SECONDS, self.wait, as_written), Progress()
         self.model, self.log, self.n, self.budget, self.kept = model, log, n, int(budget), kept
         self.asking, self.began = "", 0.0
 
@@ -134,7 +136,7 @@ class Watch:
     def digest(self, text):
         """What the words and the texts of a question are known by."""
         with open(self.model, "rb") as it:
-            known = hashlib.sha256(it.read() + b"\0" + text.encode("utf-8", "surrogateescape") + f"\0{self.n} {self.budget}".encode())
+            known = hashlib.sha256(it.read() + b"\0" + text.encode("utf-8", "surrogateescape") + f"\0{self.n} {self.budget}{' as written' * self.program.as_written}".encode())
         return known.hexdigest()
 
     def asked(self, text, count):
@@ -199,13 +201,14 @@ def again(watch, every):
 
 
 def main(words):
+    words, as_written = as_written_in(words)
     every = words[6] if len(words) == 7 else "1"
     if len(words) not in (6, 7) or not words[3].removeprefix("+").isdecimal() or not words[4].isdecimal() or not re.fullmatch(r"[0-9]+(\.[0-9]+)?", every) or not float(every):
         sys.stderr.write(__doc__)
         return 2
     for name in (signal.SIGINT, signal.SIGTERM):
         signal.signal(name, end)
-    watch = Watch(*words[:6])
+    watch = Watch(*words[:6], as_written)
     try:
         with lock_of(words[5] + ".lock"):
             return watch.look() if len(words) == 6 else again(watch, float(every))

@@ -94,7 +94,7 @@ def refused(room):
     room.put(ONE)
     for words in BAD:
         said, beside, status = room.look(*words)
-        if (said, status) != ("", 2) or "watch.py PROGRAM" not in beside:
+        if (said, status) != ("", 2) or "watch.py [--as-written] PROGRAM" not in beside:
             yield f"{words} has the status {status}"
     for name, text in (("log.csv", ONE), ("other.json", "{}"), ("list.json", "[1]")):
         room.put(text, name)
