@@ -1,4 +1,5 @@
 """Reads models and logs for the plain searches. Written apart from the program, from docs/formats.md; texts are taken to be without mistakes."""
+from functools import cached_property
 from itertools import product
 
 
@@ -15,7 +16,7 @@ class Event:
 
 
 class Network:
-    """The plant of a model text. A state of the plant is a tuple with the state of each component."""
+    """The plant of a model text. A state of the plant is a tuple with the state of each component; `starts` has the initial states of each, and `inits` those of the plant."""
 
     def __init__(self, text):
         inits, moves, rows = {}, {}, []
@@ -30,10 +31,14 @@ class Network:
             elif words[:1] == ["event"]:
                 rows.append(words)
         places = {name: place for place, name in enumerate(inits)}
-        self.inits = list(product(*inits.values()))
+        self.starts = list(inits.values())
         self.events = [self.event_of(words, places, moves) for words in rows]
         self.named = {event.name: event for event in self.events}
         self.faults = [event.name for event in self.events if event.is_fault]
+
+    @cached_property
+    def inits(self):
+        return list(product(*self.starts))
 
     @staticmethod
     def event_of(words, places, moves):
