@@ -1,7 +1,7 @@
 """Asks what one would take instead the questions of `diagnose`, and prints the tables of docs/speed.md.
 
-    python3 bench/peers.py PROGRAM [--refine REFINE] [--seed SEED] [FAMILY..]
-    python3 bench/peers.py PROGRAM [--refine REFINE] [--seed SEED] --agree COUNT
+    python3 bench/peers.py PROGRAM [--refine REFINE] [--seed SEED,..] [FAMILY..]
+    python3 bench/peers.py PROGRAM [--refine REFINE] [--seed SEED,..] --agree COUNT
 
 PROGRAM is the program as `rt run` builds it, crates/diagnose_cli/out/diagnose_cli, and REFINE the one that writes models finer, crates/refine_cli/out/refine_cli; without it tools/refine.py does it. Five are asked, those of them that are installed:
 - the program about the model as it is written, and
@@ -10,10 +10,11 @@ PROGRAM is the program as `rt run` builds it, crates/diagnose_cli/out/diagnose_c
 - clingo (Debian: gringo), with an encoding of the question that is its own, `question.lp`, and `#minimize`. Its seconds are those of the whole, of which grounding is a part;
 - clasp (Debian: clasp) as a MaxSAT solver: the formula of `cnf` for `any`, and for each fault event in each step, and for each doubtful alarm, a soft clause against it. Its seconds are those of reading and search, without the writing of the formula.
 
-clingo and clasp look for the optimum by cores (`--opt-strategy=usc`), and else search as they come. Seconds are those of the processor; who has no answer after 20 is late, and counts as 20. The plants are drawn with SEED, 3 if none is given. With --agree each is asked COUNT small questions, some with doubtful alarms, and each must have the same least number of faults, or that nothing explains the log.
+clingo and clasp are asked by each of STRATEGIES, and of each family they have the seconds of the strategy that has the least mean there. Once a strategy has no answer after 2 seconds and three times the seconds of the best one before it on that question, it isn't asked about the rest of the family, nor taken. Seconds are those of the processor; who has no answer after 20 is late, and counts as 20. The plants are drawn with each SEED, 3 if none is given; what doesn't depend on it is asked once. With --agree each, by each strategy, is asked COUNT small questions, some with doubtful alarms, and each must have the same least number of faults, or that nothing explains the log.
 
 Status 0: nobody's answer differs, 1: some does.
 """
+import math
 import os
 import random
 import subprocess
@@ -41,13 +42,25 @@ PROTECTIONS = [(1, "whole", "in their order", [1, 1.3]), (3, "whole", "in their 
 # What one of them says: the seconds, and the answer: the least number of faults, NONE, or LATE.
 Said = namedtuple("Said", ["seconds", "answer"])
 NONE, LATE = "none", "late"
-NAMES = ["as written", "refined", "CaDiCaL's library", "clingo", "clasp"]
+NAMES = ["as written", "refined", "CaDiCaL's library"]
+# How clingo and clasp look for the optimum: by cores, relaxed in three ways, or by better and better answers; with their own configuration (of clingo that is tweety, of clasp trendy) or that of the other one.
+STRATEGIES = {name: ["usc", "usc,k", "usc,pmres", "bb", f"usc {other}", f"bb {other}"] for name, other in [("clingo", "trendy"), ("clasp", "tweety")]}
+# How much slower than the best one before it a strategy may be, and for how many seconds in any case.
+SLOWER, PATIENCE = 3, 2
+# What is said of a question: by the program in both ways and the library, and by each of the solvers by each strategy that was asked.
+Asked = namedtuple("Asked", ["plain", "ways"])
 
 
-def limited(*words):
+def limited(*words, limit=LIMIT):
     """Seconds of the processor, status and text of a call that is ended at the limit."""
-    seconds, _, status, out = spent("sh", "-c", f'ulimit -t {LIMIT}; exec "$@"', "sh", *words)
+    seconds, _, status, out = spent("sh", "-c", f'ulimit -t {limit}; exec "$@"', "sh", *words)
     return seconds, status, out
+
+
+def options(strategy):
+    """The words for a strategy."""
+    how, *configuration = strategy.split()
+    return [f"--opt-strategy={how}", "--quiet=1,0", *(f"--configuration={it}" for it in configuration)]
 
 
 def by_program(program, files, steps):
@@ -101,17 +114,21 @@ def facts(model, log):
     yield from (f"before({alarms[first]},{alarms[second]})." for first, second in log.pairs)
 
 
-def by_clingo(files, steps):
+def clingo(files, steps):
+    """What clingo says of a question, by a strategy and within a limit."""
     path = os.path.join(os.path.dirname(files[0]), "facts.lp")
     with open(path, "w", encoding="ascii") as it:
         it.write("\n".join(facts(model_of(files[0]), log_of(files[1]))) + "\n")
-    seconds, _, out = limited("clingo", path, os.path.join(TOP, "bench", "question.lp"), "-c", f"n={steps}", "--opt-strategy=usc", "--quiet=1,0")
-    lines = out.split("\n")
-    if "UNSATISFIABLE" in lines:
-        return Said(seconds, NONE)
-    if "OPTIMUM FOUND" not in lines:
-        return Said(seconds, 0 if "SATISFIABLE" in lines else LATE)
-    return Said(seconds, int(next((it.split(":")[1] for it in lines if it.startswith("Optimization")), "0")))
+
+    def by(strategy, limit):
+        seconds, _, out = limited("clingo", path, os.path.join(TOP, "bench", "question.lp"), "-c", f"n={steps}", *options(strategy), limit=limit)
+        lines = out.split("\n")
+        if "UNSATISFIABLE" in lines:
+            return Said(seconds, NONE)
+        if "OPTIMUM FOUND" not in lines:
+            return Said(seconds, 0 if "SATISFIABLE" in lines else LATE)
+        return Said(seconds, int(next((it.split(":")[1] for it in reversed(lines) if it.startswith("Optimization")), "0")))
+    return by
 
 
 def soft(model, log, steps, formula):
@@ -126,18 +143,33 @@ def soft(model, log, steps, formula):
     yield from (f"1 -{it} 0" for it in against)
 
 
-def by_clasp(program, files, steps):
+def clasp(program, files, steps):
+    """The same of clasp."""
     formula = subprocess.run([program, "cnf", *files, str(steps), "any"], stdout=subprocess.PIPE, text=True, check=True).stdout
     path = os.path.join(os.path.dirname(files[0]), "faults.wcnf")
     with open(path, "w", encoding="ascii") as it:
         it.write("\n".join(soft(model_of(files[0]), log_of(files[1]), steps, formula)) + "\n")
-    seconds, _, out = limited("clasp", path, "--opt-strategy=usc", "--outf=1", "--quiet=1,0")
-    lines = out.split("\n")
-    if "s UNSATISFIABLE" in lines:
-        return Said(seconds, NONE)
-    if "s OPTIMUM FOUND" not in lines:
-        return Said(seconds, 0 if "s SATISFIABLE" in lines else LATE)
-    return Said(seconds, int(next((it.split()[1] for it in reversed(lines) if it.startswith("o ")), "0")))
+
+    def by(strategy, limit):
+        seconds, _, out = limited("clasp", path, "--outf=1", *options(strategy), limit=limit)
+        lines = out.split("\n")
+        if "s UNSATISFIABLE" in lines:
+            return Said(seconds, NONE)
+        if "s OPTIMUM FOUND" not in lines:
+            return Said(seconds, 0 if "s SATISFIABLE" in lines else LATE)
+        return Said(seconds, int(next((it.split()[1] for it in reversed(lines) if it.startswith("o ")), "0")))
+    return by
+
+
+def tried(by, strategies, dropped):
+    """What a solver says by each strategy but those that are dropped. Those that are from now on are put to these."""
+    found = {}
+    for strategy in [it for it in strategies if it not in dropped]:
+        best = min((it.seconds for it in found.values() if it.answer != LATE), default=LIMIT)
+        found[strategy] = by(strategy, min(LIMIT, max(PATIENCE, math.ceil(SLOWER * best))))
+    if any(it.answer != LATE for it in found.values()):
+        dropped |= {strategy for strategy, it in found.items() if it.answer == LATE}
+    return found
 
 
 def has(program):
@@ -149,22 +181,45 @@ class Peers:
 
     def __init__(self, program, refine, folder):
         self.program, self.refine, self.folder, self.cadical = program, refine, folder, library(folder)
-        self.has_clingo, self.has_clasp = has("clingo"), has("clasp")
+        self.solvers = [it for it in ("clingo", "clasp") if has(it)]
 
-    def asked(self, steps, model, log):
-        """What each says of a question, and None for who isn't there. The library is asked last, since it needs to know the answer."""
+    def names(self):
+        return NAMES + self.solvers
+
+    def asked(self, steps, model, log, dropped):
+        """What each says of a question, and None for who isn't there. `dropped` has of each solver the strategies that are not to be asked. The library is asked last, since it needs to know the answer."""
         files = written(self.folder, model, log)
-        said = [by_program(self.program, files, steps), by_refined(self.program, self.refine, files, steps), None]
-        said += [by_clingo(files, steps) if self.has_clingo else None, by_clasp(self.program, files, steps) if self.has_clasp else None]
-        known = [it.answer for it in said if it and it.answer != LATE]
+        said = Asked([by_program(self.program, files, steps), by_refined(self.program, self.refine, files, steps), None], {})
+        for name in self.solvers:
+            said.ways[name] = tried(clingo(files, steps) if name == "clingo" else clasp(self.program, files, steps), STRATEGIES[name], dropped.setdefault(name, set()))
+        known = answers(said)
         if self.cadical and known:
-            said[2] = by_library(self.program, self.cadical, files, steps, known[0])
+            said.plain[2] = by_library(self.program, self.cadical, files, steps, known[0])
         return said
+
+
+def answers(said):
+    """All answers to a question."""
+    every = said.plain + [it for ways in said.ways.values() for it in ways.values()]
+    return [it.answer for it in every if it and it.answer != LATE]
 
 
 def agree(said):
     """Whether all that have an answer have the same."""
-    return len({it.answer for it in said if it and it.answer != LATE}) <= 1
+    return len(set(answers(said))) <= 1
+
+
+def counted(said):
+    """The seconds that somebody has in a mean."""
+    return LIMIT if said.answer == LATE else max(said.seconds, LEAST)
+
+
+def chosen(rows, name):
+    """The strategy by which a solver is late least often on these questions, and of those the one with the least mean."""
+    def seen(strategy):
+        some = [row.ways[name][strategy] for row in rows]
+        return sum(it.answer == LATE for it in some), mean(list(map(counted, some)))
+    return min([it for it in STRATEGIES[name] if all(it in row.ways[name] for row in rows)], key=seen)
 
 
 def questions(program, seed):
@@ -203,40 +258,66 @@ def shown(said):
 
 
 def answer_of(said):
-    return next((str(it.answer) for it in said if it and it.answer != LATE), "")
+    return next(map(str, answers(said)), "")
 
 
-def table(peers, seed, families):
+def by_family(peers, seeds, families):
+    """The questions of each family, each once."""
+    found, seen = {}, set()
+    for seed in seeds:
+        for family, name, steps, model, log in questions(peers.program, seed):
+            key = steps, tuple(model), tuple(log)
+            if key not in seen and (not families or family in families):
+                seen.add(key)
+                found.setdefault(family, []).append((f"{name}, seed {seed}" if len(seeds) > 1 else name, steps, model, log))
+    return found
+
+
+def row(cells):
+    return f"| {' | '.join(cells)} |"
+
+
+def table(peers, seeds, families):
     """Prints a row for each question and the means of the families; answers whether nobody's answer differs."""
-    print("| Family | Plant and log | Steps | " + " | ".join(NAMES) + " | Faults |\n" + "|---" * (len(NAMES) + 4) + "|")
-    kept, differs = {}, 0
-    for family, name, steps, model, log in questions(peers.program, seed):
-        if families and family not in families:
-            continue
-        said = peers.asked(steps, model, log)
-        kept.setdefault(family, []).append(said)
-        differs += not agree(said)
-        print("| " + " | ".join([family, name, str(steps), *map(shown, said), answer_of(said) if agree(said) else f"DIFFERS: {[it and it.answer for it in said]}"]) + " |", flush=True)
-    print("\n| Family | Questions | " + " | ".join(NAMES) + " | Late |\n" + "|---" * (len(NAMES) + 3) + "|")
-    columns = {family: [mean([LIMIT if it.answer == LATE else max(it.seconds, LEAST) for it in column if it]) for column in zip(*rows)] for family, rows in kept.items()}
+    print(row(["Family", "Plant and log", "Steps", *peers.names(), "Faults"]) + "\n" + "|---" * (len(peers.names()) + 4) + "|")
+    kept, differs, best = {}, 0, {}
+    for family, some in by_family(peers, seeds, families).items():
+        dropped = {}
+        rows = [peers.asked(steps, model, log, dropped) for _, steps, model, log in some]
+        best[family] = {name: chosen(rows, name) for name in peers.solvers}
+        kept[family] = [said.plain + [said.ways[name][best[family][name]] for name in peers.solvers] for said in rows]
+        for (name, steps, _, _), said, columns in zip(some, rows, kept[family]):
+            differs += not agree(said)
+            print(row([family, name, str(steps), *map(shown, columns), answer_of(said) if agree(said) else f"DIFFERS: {said}"]), flush=True)
+    means_of(peers, kept, best)
+    return differs == 0
+
+
+def means_of(peers, kept, best):
+    """Prints the means of the families, and the strategies that were the best."""
+    print("\n" + row(["Family", "Questions", *peers.names(), "Late"]) + "\n" + "|---" * (len(peers.names()) + 3) + "|")
+    columns = {family: [mean([counted(it) for it in column if it]) for column in zip(*rows)] for family, rows in kept.items()}
     for family, means in columns.items():
         late = ", ".join(str(sum(1 for it in column if it and it.answer == LATE)) for column in zip(*kept[family]))
-        print(f"| {family} | {len(kept[family])} | " + " | ".join("" if it is None else f"{it:.3f}" for it in means) + f" | {late} |")
+        print(row([family, str(len(kept[family])), *("" if it is None else f"{it:.3f}" for it in means), late]))
     over = [mean([it for it in column if it is not None]) for column in zip(*columns.values())]
-    print(f"| all | {sum(map(len, kept.values()))} | " + " | ".join("" if it is None else f"{it:.3f}" for it in over) + " | |")
-    return differs == 0
+    print(row(["all", str(sum(map(len, kept.values()))), *("" if it is None else f"{it:.3f}" for it in over), ""]))
+    if peers.solvers:
+        print("\n" + row(["Family", *peers.solvers]) + "\n" + "|---" * (len(peers.solvers) + 1) + "|")
+        print("\n".join(row([family, *some.values()]) for family, some in best.items()))
 
 
 def agreement(peers, seed, count):
     """Asks small questions; answers whether nobody's answer differs."""
-    differs, answers = [], []
+    differs, found = [], []
     for number in range(count):
-        said = peers.asked(*small(random.Random(f"{seed} {number}")))
-        answers.append(answer_of(said))
-        if not agree(said) or LATE in [it.answer for it in said if it]:
+        said = peers.asked(*small(random.Random(f"{seed} {number}")), {})
+        found.append(answer_of(said))
+        late = [it for it in said.plain + [it for ways in said.ways.values() for it in ways.values()] if it and it.answer == LATE]
+        if not agree(said) or late:
             differs.append(f"question {number}: {said}")
-    who = [name for name, it in zip(NAMES, said) if it]
-    print("\n".join(differs + [f"{count} questions, {len(differs)} with answers that differ; nothing explains {answers.count(NONE)} of the logs, and {sum(it not in (NONE, '0') for it in answers)} need faults. Asked: {', '.join(who)}."]))
+    who = [name for name, it in zip(NAMES, said.plain) if it] + [f"{name} by {len(STRATEGIES[name])} strategies" for name in peers.solvers]
+    print("\n".join(differs + [f"{count} questions, {len(differs)} with answers that differ; nothing explains {found.count(NONE)} of the logs, and {sum(it not in (NONE, '0') for it in found)} need faults. Asked: {', '.join(who)}."]))
     return not differs
 
 
@@ -251,9 +332,9 @@ def option(words, name, otherwise):
 
 
 def main(folder, words):
-    refine, seed, count = option(words, "--refine", None), int(option(words, "--seed", "3")), option(words, "--agree", None)
+    refine, seeds, count = option(words, "--refine", None), [int(it) for it in option(words, "--seed", "3").split(",")], option(words, "--agree", None)
     peers = Peers(os.path.abspath(words[0]), refine and os.path.abspath(refine), folder)
-    return agreement(peers, seed, int(count)) if count else table(peers, seed, words[1:])
+    return agreement(peers, seeds[0], int(count)) if count else table(peers, seeds, words[1:])
 
 
 if __name__ == "__main__":
