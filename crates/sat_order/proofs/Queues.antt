@@ -1,14 +1,14 @@
 -- The runs of variables through their changes.
-use Rattle.std.proofs.Common.{◌≡◌, ◌∙◌, ℕ, zero, suc, ◌+◌, ◌-◌, ◌<◌, ◌≤◌, Bool, true, false, ◌++◌, ◌∷◌, [], List, refl, ap, sym, length, get_or, arith, subst, inl, inr, ⊎_elim, eqb, ltb, cond, slice_set, map, min, drop, take, append_assoc}
+use Rattle.std.proofs.Common.{◌≡◌, ◌∙◌, ℕ, zero, suc, ◌+◌, ◌-◌, ◌<◌, ◌≤◌, Bool, true, false, ◌++◌, ◌∷◌, [], List, refl, ap, sym, length, get_or, arith, subst, inl, inr, ⊎_elim, slice_set, min, drop, take, append_assoc}
 use Rattle.std.specs.Prelude.{Option, Some, None}
 use Rattle.std.specs.List.{AllByRecursion, AllZip}
 use Rattle.std.proofs.lemmas.List.{length-take, get_or_at, set_at, drop_more}
 use Rattle.std.proofs.lemmas.List.Elements.{length_all_zip, all_zip_more}
 use Rattle.std.proofs.lemmas.Grind.{common_steps}
-use Rattle.std.proofs.lemmas.Bool.{eqb-true, ltb-true, ltb-false, eq-eqb, ne_eqb, cases_lt, cases_eq, cases_order}
+use Rattle.std.proofs.lemmas.Bool.{cases_lt, cases_eq}
 use Rattle.sat_order.specs.declared.queue.RankRun.{RankRun}
 use Rattle.sat_order.specs.Waiting.{rank_of, waits, ComesFirst, IsNext, NoneWaits}
-use Rattle.sat_order.specs.Queue.{IsRankRun, AreRuns, IsQueue, Lengthens, EndsBehind, IsPlaceOf, LetsWait, IsFirstWaiting, IsMovedOn, WaitsNext, IsBest}
+use Rattle.sat_order.specs.Queue.{IsRankRun, AreRuns, IsQueue, Lengthens, EndsBehind, IsPlaceOf, LetsWait, IsMovedOn, WaitsNext, IsBest}
 
 -- runs stay what they are where their variables keep their ranks, and those that didn't wait don't
 IsRankRun-kept : (ranks new : List ℕ) (waiting now : List Bool) (first last : ℕ) (run : RankRun) → run.end ≤ last → ((var : ℕ) → var < last → rank_of new var ≡ rank_of ranks var) →
@@ -145,9 +145,6 @@ pub record IsSought (var : ℕ) (runs : List RankRun) (place : ℕ) : Type 0 whe
   pub ahead : EndsBehind var (drop place runs)
   pub found : (more : ℕ) → IsPlaceOf var (drop place runs) more → IsPlaceOf var runs (place + more)
 
-pub IsSought-first : (var : ℕ) (runs : List RankRun) → EndsBehind var runs → IsSought var runs 0
-IsSought-first var runs e = record { ahead = e; found = λ more p. subst (IsPlaceOf var runs) (omega arith) p }
-
 pub sought_inside : (var : ℕ) (runs : List RankRun) (place : ℕ) → IsSought var runs place → place < length runs
 sought_inside var runs place s = ⊎_elim (λ l. l) (λ g. absurd (nothing (grind (arith, common_steps)) s.ahead)) (cases_lt place (length runs))
   where
@@ -225,57 +222,10 @@ IsQueue-take ranks waiting runs var q =
       all = AreRuns-kept ranks ranks waiting (slice_set waiting var false) 0 (length ranks) runs (λ other b. refl) (λ other a b h. grind (arith, common_steps)) q.all;
     }
 
-none_in : (ranks : List ℕ) (waiting : List Bool) (first : ℕ) (run : RankRun) → IsRankRun ranks waiting first run → run.end ≤ run.next → (other : ℕ) → first ≤ other → other < run.end → waits waiting other ≡ false
-none_in ranks waiting first run r e other a b = r.passed other a (omega arith)
-
-not_both : (waiting : List Bool) (var : ℕ) → waits waiting var ≡ true → waits waiting var ≡ false → ⊥
-not_both waiting var on off = let e : true ≡ false = sym on ∙ off in cc
-
--- the next of a run comes first of those that wait in it
-first_in : (ranks : List ℕ) (waiting : List Bool) (first : ℕ) (run : RankRun) → IsRankRun ranks waiting first run → (other : ℕ) → first ≤ other → other < run.end → waits waiting other ≡ true → run.next ≤ other
-first_in ranks waiting first run r other a b on = ⊎_elim (λ l. absurd (not_both waiting other on (r.passed other a l))) (λ g. g) (cases_lt other run.next)
-
-of_run : (ranks : List ℕ) (waiting : List Bool) (first : ℕ) (run : RankRun) → IsRankRun ranks waiting first run → run.next < run.end → waits waiting run.next ≡ true →
-    ((other : ℕ) → other < first → waits waiting other ≡ true → ComesFirst run.next run.rank other (rank_of ranks other)) → IsBest ranks waiting run.end (Some run)
-of_run ranks waiting first run r n on before = (
-  n,
-  on,
-  r.ranked run.next r.from n,
-  λ other b w. ⊎_elim
-      (λ l. before other l w)
-      (λ g. inr (r.ranked other g b, first_in ranks waiting first run r other g b w))
-      (cases_lt other first),
-)
-
--- a best run stays the best where those that wait in one more run come behind it
-stays_best : (ranks : List ℕ) (waiting : List Bool) (first : ℕ) (best run : RankRun) → IsRankRun ranks waiting first run → IsBest ranks waiting first (Some best) →
-    ((other : ℕ) → first ≤ other → other < run.end → waits waiting other ≡ true → ComesFirst best.next best.rank other (rank_of ranks other)) → IsBest ranks waiting run.end (Some best)
-stays_best ranks waiting first best run r k later = let u = r.upto in let f = r.from in let b = k.0 in (omega arith, k.1, k.2, λ other c w. ⊎_elim (λ l. k.3 other l w) (λ g. later other g c w) (cases_lt other first))
-
-pub IsBest-past : (best : Option RankRun) (run : RankRun) → run.end ≤ run.next → (ranks : List ℕ) (waiting : List Bool) (first : ℕ) → IsRankRun ranks waiting first run → IsBest ranks waiting first best → IsBest ranks waiting run.end best
-IsBest-past None run p ranks waiting first r k = λ other b. ⊎_elim (λ l. k other l) (λ g. none_in ranks waiting first run r p other g b) (cases_lt other first)
-IsBest-past (Some best) run p ranks waiting first r k = stays_best ranks waiting first best run r k (λ other g c w. absurd (not_both waiting other w (none_in ranks waiting first run r p other g c)))
-
-pub IsBest-kept : (best run : RankRun) → run.rank ≤ best.rank → (ranks : List ℕ) (waiting : List Bool) (first : ℕ) → IsRankRun ranks waiting first run → IsBest ranks waiting first (Some best) → IsBest ranks waiting run.end (Some best)
-IsBest-kept best run a ranks waiting first r k = let b = k.0 in stays_best ranks waiting first best run r k (λ other g c w. let e = r.ranked other g c in ⊎_elim
-    (λ l. inl (omega arith))
-    (λ h. ⊎_elim (λ s. inr (e ∙ s, omega arith)) (λ s. inl (⊎_elim (λ x. omega arith) (λ x. absurd (omega arith)) s)) (cases_order run.rank best.rank))
-    (cases_lt run.rank best.rank))
-
-pub IsBest-taken : (best : Option RankRun) (run : RankRun) → run.next < run.end → ((kept : RankRun) → best ≡ Some kept → kept.rank < run.rank) → (ranks : List ℕ) (waiting : List Bool) (first : ℕ) → IsRankRun ranks waiting first run → WaitsNext waiting run →
-    IsBest ranks waiting first best → IsBest ranks waiting run.end (Some run)
-IsBest-taken None run n less ranks waiting first r m k = of_run ranks waiting first run r n (m n) (λ other l w. absurd (not_both waiting other w (k other l)))
-IsBest-taken (Some best) run n less ranks waiting first r m k =
-    let a = less best refl in
-    of_run ranks waiting first run r n (m n) (λ other l w. ⊎_elim (λ x. inl (omega arith)) (λ x. let e = x.0 in inl (omega arith)) (k.3 other l w))
-
 -- the best of the runs before a place
 abbrev pub IsBestBefore : List RankRun → ℕ → Option RankRun → Type 0
 IsBestBefore runs place best = (ranks : List ℕ) (waiting : List Bool) (last : ℕ) → AreRuns ranks waiting 0 last runs → AllByRecursion (WaitsNext waiting) runs →
     (first : ℕ) × IsBest ranks waiting first best × AreRuns ranks waiting first last (drop place runs) × AllByRecursion (WaitsNext waiting) (drop place runs)
-
-pub IsBestBefore-first : (runs : List RankRun) → IsBestBefore runs 0 None
-IsBestBefore-first runs ranks waiting last r w = (0, (λ other l. absurd (omega arith)), r, w)
 
 pub IsBestBefore-next : (runs : List RankRun) (place : ℕ) (run : RankRun) (best better : Option RankRun) → place < length runs → run ≡ get_or runs place run →
     ((ranks : List ℕ) (waiting : List Bool) (first : ℕ) → IsRankRun ranks waiting first run → WaitsNext waiting run → IsBest ranks waiting first best → IsBest ranks waiting run.end better) → IsBestBefore runs place best → IsBestBefore runs (place + 1) better
