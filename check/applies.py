@@ -10,12 +10,24 @@ import os
 import re
 import sys
 
-sys.dont_write_bytecode = True
-from edits import beside_the_gate  # noqa: E402
-
 TOP = os.path.dirname(os.path.dirname(os.path.abspath(__file__)))
+PACKED = "more-edits.txt"
 # How a line of a contract begins.
 CONTRACT = re.compile(r" *(requires|ensures|ghost)\b")
+
+
+def unpacked(path):
+    """The edits of a file more-edits.txt: the name of each, and its text."""
+    with open(path, encoding="utf-8") as it:
+        blocks = re.split(r"^# (\w+)\n", it.read(), flags=re.M)
+    return [(name, text.rstrip("\n") + "\n") for name, text in zip(blocks[1::2], blocks[2::2])]
+
+
+def beside_the_gate(crate):
+    """The edits in a crate's folder that the gate doesn't try: the file of each, its name and its text."""
+    if os.path.isfile(f"{crate}/{PACKED}"):
+        for name, text in unpacked(f"{crate}/{PACKED}"):
+            yield f"{crate}/{PACKED}", name, text
 
 
 def is_code(path, text, old):

@@ -4,7 +4,7 @@
 
 A call is a public function or method, or a method that a public trait declares (its impls have the trait's clauses), in `src/` of a crate that isn't one of tests. It has
 something to say if it has a result, or takes an argument by `&mut`. Without an `ensures` any body would pass, a wrong one too. ADVICE names the calls that have none all
-the same, each with the reason. Whether a clause says enough only a reader can tell, or a bug that is planted (edits.py and mutants.py beside this file).
+the same, each with the reason. Whether a clause says enough only a reader can tell, or a bug that is planted (dev/edits.py and dev/mutants.py).
 
 With --private it prints the private functions without one too, which no other crate calls.
 """

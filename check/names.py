@@ -42,7 +42,7 @@ def known_words():
     """All words of the repository: of code, definitions, proofs and scripts, and of the names of files and crates."""
     crates = glob.glob(os.path.join(TOP, "crates", "*"))
     folders = [os.path.join(crate, part) for crate in crates for part in ("src", "specs", "proofs")]
-    folders += [os.path.join(TOP, folder) for folder in ("bench", "check", "cases", "docs", "examples", "tools", ".ci")]
+    folders += [os.path.join(TOP, folder) for folder in ("bench", "check", "cases", "dev", "docs", "examples", "tools", ".ci")]
     return set(map(os.path.basename, crates)).union(*map(words_of, folders))
 
 

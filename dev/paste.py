@@ -1,9 +1,9 @@
 """Pastes the commands of the pages into a terminal in a fresh clone, block by block, as a newcomer does, and prints each answer that isn't the one that the page quotes.
 
-    python3 check/paste.py PROGRAM [PAGE..]
+    python3 dev/paste.py PROGRAM [PAGE..]
 
 The last commit is cloned, and PROGRAM put where the pages call it. All pages go into one interactive bash, in the order in which they are likely to be read, so each finds what those
-before it left behind. examples/quoted.py, which the gate runs, gives each page a shell and a copy of its own in place of that; what is a command, what its answer, and
+before it left behind. check/quoted.py, which the gate runs, gives each page a shell and a copy of its own in place of that; what is a command, what its answer, and
 what is left out is as there: blocks that prove or build, and those that call another solver or GNU parallel where it isn't installed. These are listed.
 At the end nothing that git knows has changed, and nothing lies in the clone that git doesn't ignore.
 
@@ -22,7 +22,7 @@ import termios
 import time
 
 TOP = os.path.dirname(os.path.dirname(os.path.abspath(__file__)))
-sys.path.insert(0, os.path.join(TOP, "examples"))
+sys.path.insert(0, os.path.join(TOP, "check"))
 sys.dont_write_bytecode = True
 import quoted  # noqa: E402
 

@@ -1,6 +1,6 @@
 """Tries must-fail edits: those of must-fail/, which the gate tries too, and those beside the gate, which it doesn't.
 
-    sh check/edits.sh [--since COMMIT] [CRATE..]
+    sh dev/edits.sh [--since COMMIT] [CRATE..]
 
 The edits beside the gate stand in more-edits.txt of their crate, each behind a line `# NAME`.
 
@@ -8,7 +8,7 @@ It tries those of the crates that are named, or of all; with --since only those 
 or a file of a crate below. It works on a copy, by the command that tries edits alone (rt must-fail), which begins with what checks on
 this machine kept.
 
-What was refused is kept in check/out/refused, which git ignores: for each edit the sum of its text, of its crate, of the crates below and of
+What was refused is kept in dev/out/refused, which git ignores: for each edit the sum of its text, of its crate, of the crates below and of
 the prover's version. So an edit isn't tried again while none of these changed; without that file all are tried. It is for the time before an
 issue is said to be resolved, and before the public clauses of a crate change, and after.
 
@@ -26,10 +26,13 @@ import sys
 import tempfile
 
 TOP = os.path.dirname(os.path.dirname(os.path.abspath(__file__)))
-KEPT = os.path.join(TOP, "check", "out", "refused")
+sys.dont_write_bytecode = True
+sys.path.insert(0, os.path.join(TOP, "check"))
+from applies import PACKED, beside_the_gate, unpacked  # noqa: E402
+
+KEPT = os.path.join(TOP, "dev", "out", "refused")
 PROVED = ("src", "specs", "proofs")
 TRIED = ("must-fail", "more-edits")
-PACKED = "more-edits.txt"
 # What the command says of an edit.
 VERDICT = re.compile(r"rt: must-fail ([^/\s]+)/([^/\s]+\.edit): (refused, as it must be|NOT REFUSED|BAD EDIT|NOT TRIED)(.*)")
 # A refusal that says little of the contract.
@@ -38,20 +41,6 @@ WEAK = re.compile(r" \(only ")
 
 class Unready(Exception):
     """Why it can't begin."""
-
-
-def unpacked(path):
-    """The edits of a file more-edits.txt: the name of each, and its text."""
-    with open(path, encoding="utf-8") as it:
-        blocks = re.split(r"^# (\w+)\n", it.read(), flags=re.M)
-    return [(name, text.rstrip("\n") + "\n") for name, text in zip(blocks[1::2], blocks[2::2])]
-
-
-def beside_the_gate(crate):
-    """The edits in a crate's folder that the gate doesn't try: the file of each, its name and its text."""
-    if os.path.isfile(f"{crate}/{PACKED}"):
-        for name, text in unpacked(f"{crate}/{PACKED}"):
-            yield f"{crate}/{PACKED}", name, text
 
 
 def copied(room):

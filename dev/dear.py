@@ -1,6 +1,6 @@
 """Prints which functions were dear to prove, from what the last checks kept.
 
-    python3 check/dear.py [--least SECONDS] [CRATE..]
+    python3 dev/dear.py [--least SECONDS] [CRATE..]
 
 A check leaves one file for each part of a proof in out/incremental/ of its crate, as soon as the part is done. The time from one file to the next is taken
 as what the later one cost, in seconds by the clock. So nothing is proved again; but the seconds are longer where other work was done beside the check, parts that

@@ -1,6 +1,6 @@
 """Runs the gate from nothing, and prints what it costs: seconds of the processor by crate and kind, as a table.
 
-    python3 check/cost.py [--kept] [CRATE..]
+    python3 dev/cost.py [--kept] [CRATE..]
 
 It clones the last commit into a temporary folder, where nothing is kept, and runs .ci/run there, which calls `rt ci --anew` in place of
 `rt ci`, so that nothing is taken from earlier runs on this machine; a kit whose `rt ci` always begins from nothing knows no such word, and gets none. With crates it

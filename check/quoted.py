@@ -1,6 +1,6 @@
 """Runs the commands of the top README, the documents and the pages as they stand there, and prints each answer that isn't the one that the page quotes.
 
-    python3 examples/quoted.py PROGRAM [PAGE..]
+    python3 check/quoted.py PROGRAM [PAGE..]
 
 PROGRAM is the compiled program, which `rt run` and `rt ci` leave as crates/diagnose_cli/out/diagnose_cli. With no PAGE, those that have commands are
 read. The commands of a page are those of its blocks that are fenced as sh or indented. One shell runs them from top to bottom, redirections and all, at the
@@ -22,10 +22,10 @@ import tempfile
 
 TOP = os.path.dirname(os.path.dirname(os.path.abspath(__file__)))
 BUILT = "crates/diagnose_cli/out/diagnose_cli"
-COPIED = ["bench", "cases", "check", "docs", "examples", "tools"]
+COPIED = ["bench", "cases", "check", "dev", "docs", "examples", "tools"]
 PAGES = ["README.md", "CONTRIBUTING.md", *(f"docs/{it}.md" for it in ["tutorial", "scripts", "blocks", "tools", "variables"]), "examples/*/README.md"]
 FILES = ["examples/*/*.des", "examples/*/*.blocks", "examples/*/*.csv", "examples/*/*.costs", "examples/*/*.run", "crates/*/must-fail/*.edit", "crates/*/more-edits.txt"]
-KIT = re.compile(r"(?:rt|\(?cd crates|git|\.ci/run|python3 examples/quoted\.py)\b")
+KIT = re.compile(r"(?:rt|\(?cd crates|git|\.ci/run|python3 check/quoted\.py)\b")
 OTHERS = {"cadical": "--lrat", "clasp": "", "minisat": "", "parallel": ""}
 HERE = re.compile(r"<<'([A-Z]+)'")
 BOX = r'(\w+)(\["[^"]+"\]|\(\["[^"]+"\]\))?(?::::fault)?'

@@ -1,6 +1,6 @@
 """Draws small wrong changes of the code at random, and looks whether the prover refuses each: a bug that passes is something that no contract says.
 
-    python3 check/mutants.py [--seed SEED] [--count COUNT] [CRATE..]
+    python3 dev/mutants.py [--seed SEED] [--count COUNT] [CRATE..]
 
 COUNT changes (100 if none is given) are shared out among the crates that are named, or all, by how many changes each has, but at least two for each. Which ones, SEED says
 (1 if none is given), so a run can be had again. What a change may be is said in draw.py beside this file. The crates must have been proved in this checkout by `rt all check`, which
