@@ -8,7 +8,7 @@ use Rattle.std.proofs.lemmas.Grind.{common_steps}
 use Rattle.std.proofs.lemmas.Bool.{cases_lt, cases_eq}
 use Rattle.sat_order.specs.declared.queue.RankRun.{RankRun}
 use Rattle.sat_order.specs.Waiting.{rank_of, waits, ComesFirst, IsNext, NoneWaits}
-use Rattle.sat_order.specs.Queue.{IsRankRun, AreRuns, IsQueue, Lengthens, EndsBehind, IsPlaceOf, LetsWait, IsMovedOn, WaitsNext, IsBest}
+use Rattle.sat_order.specs.Queue.{IsRankRun, AreRuns, IsQueue, Lengthens, EndsBehind, IsPlaceOf, LetsWait, IsMovedOn, WaitsNext, GivesNext}
 
 -- runs stay what they are where their variables keep their ranks, and those that didn't wait don't
 IsRankRun-kept : (ranks new : List ℕ) (waiting now : List Bool) (first last : ℕ) (run : RankRun) → run.end ≤ last → ((var : ℕ) → var < last → rank_of new var ≡ rank_of ranks var) →
@@ -225,10 +225,10 @@ IsQueue-take ranks waiting runs var q =
 -- the best of the runs before a place
 abbrev pub IsBestBefore : List RankRun → ℕ → Option RankRun → Type 0
 IsBestBefore runs place best = (ranks : List ℕ) (waiting : List Bool) (last : ℕ) → AreRuns ranks waiting 0 last runs → AllByRecursion (WaitsNext waiting) runs →
-    (first : ℕ) × IsBest ranks waiting first best × AreRuns ranks waiting first last (drop place runs) × AllByRecursion (WaitsNext waiting) (drop place runs)
+    (first : ℕ) × GivesNext ranks waiting first best × AreRuns ranks waiting first last (drop place runs) × AllByRecursion (WaitsNext waiting) (drop place runs)
 
 pub IsBestBefore-next : (runs : List RankRun) (place : ℕ) (run : RankRun) (best better : Option RankRun) → place < length runs → run ≡ get_or runs place run →
-    ((ranks : List ℕ) (waiting : List Bool) (first : ℕ) → IsRankRun ranks waiting first run → WaitsNext waiting run → IsBest ranks waiting first best → IsBest ranks waiting run.end better) → IsBestBefore runs place best → IsBestBefore runs (place + 1) better
+    ((ranks : List ℕ) (waiting : List Bool) (first : ℕ) → IsRankRun ranks waiting first run → WaitsNext waiting run → GivesNext ranks waiting first best → GivesNext ranks waiting run.end better) → IsBestBefore runs place best → IsBestBefore runs (place + 1) better
 IsBestBefore-next runs place run best better k e goes b ranks waiting last r w =
     let before = b ranks waiting last r w in
     let split = drop_head runs place run k e in
@@ -237,24 +237,24 @@ IsBestBefore-next runs place run best better k e goes b ranks waiting last r w =
     (run.end, goes ranks waiting before.0 parts.0 wait.0 before.1, parts.1, wait.1)
 
 pub IsBestBefore-all : (runs : List RankRun) (place : ℕ) (best : Option RankRun) → length runs ≤ place → IsBestBefore runs place best → (ranks : List ℕ) (waiting : List Bool) (last : ℕ) → AreRuns ranks waiting 0 last runs → AllByRecursion (WaitsNext waiting) runs →
-    IsBest ranks waiting last best
+    GivesNext ranks waiting last best
 IsBestBefore-all runs place best k b ranks waiting last r w =
     let before = b ranks waiting last r w in
     let none : drop place runs ≡ [] = grind (arith, common_steps) in
     let end : before.0 ≡ last = subst (AreRuns ranks waiting before.0 last) none before.2 in
-    subst (λ n. IsBest ranks waiting n best) end before.1
+    subst (λ n. GivesNext ranks waiting n best) end before.1
 
 below : (waiting : List Bool) (other : ℕ) → waits waiting other ≡ true → other < length waiting
 below waiting other on = grind (arith, common_steps)
 
 -- the best run of a queue that is moved on
 pub best_of_queue : (ranks : List ℕ) (waiting : List Bool) (runs moved read : List RankRun) (best : Option RankRun) → AllZip (IsMovedOn waiting) runs moved → IsQueue ranks waiting runs → read ≡ moved →
-    ((ranks : List ℕ) (waiting : List Bool) (last : ℕ) → AreRuns ranks waiting 0 last read → AllByRecursion (WaitsNext waiting) read → IsBest ranks waiting last best) → IsBest ranks waiting (length ranks) best
+    ((ranks : List ℕ) (waiting : List Bool) (last : ℕ) → AreRuns ranks waiting 0 last read → AllByRecursion (WaitsNext waiting) read → GivesNext ranks waiting last best) → GivesNext ranks waiting (length ranks) best
 best_of_queue ranks waiting runs moved read best m q e goes =
     goes ranks waiting (length ranks) (subst (AreRuns ranks waiting 0 (length ranks)) (sym e) (AreRuns-moved ranks waiting 0 (length ranks) runs moved m q.all)) (subst (AllByRecursion (WaitsNext waiting)) (sym e) (WaitsNext-moved waiting runs moved m))
 
 -- the best that waits comes first of all
-pub best_is_next : (ranks : List ℕ) (waiting : List Bool) (runs : List RankRun) (run : RankRun) → IsQueue ranks waiting runs → IsBest ranks waiting (length ranks) (Some run) → IsNext ranks waiting run.next
+pub best_is_next : (ranks : List ℕ) (waiting : List Bool) (runs : List RankRun) (run : RankRun) → IsQueue ranks waiting runs → GivesNext ranks waiting (length ranks) (Some run) → IsNext ranks waiting run.next
 best_is_next ranks waiting runs run q k =
     let same = q.same in
     let a = k.0 in
@@ -265,7 +265,7 @@ best_is_next ranks waiting runs run q k =
     }
 
 -- without a best one none waits
-pub none_waits : (ranks : List ℕ) (waiting : List Bool) (runs : List RankRun) → IsQueue ranks waiting runs → IsBest ranks waiting (length ranks) None → NoneWaits waiting
+pub none_waits : (ranks : List ℕ) (waiting : List Bool) (runs : List RankRun) → IsQueue ranks waiting runs → GivesNext ranks waiting (length ranks) None → NoneWaits waiting
 none_waits ranks waiting runs q k var =
     let same = q.same in
     ⊎_elim (λ l. k var (omega arith)) (λ g. past waiting var (omega arith)) (cases_lt var (length waiting))

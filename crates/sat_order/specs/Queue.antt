@@ -46,7 +46,7 @@ abbrev pub LetsWait : ℕ → List RankRun → List RankRun → Type 0
 LetsWait var before after = (ranks : List ℕ) (waiting : List Bool) (last : ℕ) → var < last → AreRuns ranks waiting 0 last before → AreRuns ranks (slice_set waiting var true) 0 last after
 
 -- the first variable from `next` on that waits, or the end where none before it does
-pub record IsFirstWaiting (waiting : List Bool) (next end var : ℕ) : Type 0 where
+pub record IsFirstToWait (waiting : List Bool) (next end var : ℕ) : Type 0 where
   pub from : next ≤ var
   pub upto : next ≤ end → var ≤ end
   pub passed : (other : ℕ) → next ≤ other → other < var → waits waiting other ≡ false
@@ -56,14 +56,14 @@ pub record IsFirstWaiting (waiting : List Bool) (next end var : ℕ) : Type 0 wh
 pub record IsMovedOn (waiting : List Bool) (run moved : RankRun) : Type 0 where
   pub rank : moved.rank ≡ run.rank
   pub end : moved.end ≡ run.end
-  pub next : IsFirstWaiting waiting run.next run.end moved.next
+  pub next : IsFirstToWait waiting run.next run.end moved.next
 
 -- the next variable of a run waits, unless the run is passed whole
 abbrev pub WaitsNext : List Bool → RankRun → Type 0
 WaitsNext waiting run = run.next < run.end → waits waiting run.next ≡ true
 
 -- the next variable of the run comes first of those before the last that wait; without a run none of them waits
-abbrev pub IsBest : List ℕ → List Bool → ℕ → Option RankRun → Type 0
-IsBest ranks waiting last None = (other : ℕ) → other < last → waits waiting other ≡ false
-IsBest ranks waiting last (Some run) = (run.next < last) × (waits waiting run.next ≡ true) × (rank_of ranks run.next ≡ run.rank) ×
+abbrev pub GivesNext : List ℕ → List Bool → ℕ → Option RankRun → Type 0
+GivesNext ranks waiting last None = (other : ℕ) → other < last → waits waiting other ≡ false
+GivesNext ranks waiting last (Some run) = (run.next < last) × (waits waiting run.next ≡ true) × (rank_of ranks run.next ≡ run.rank) ×
     ((other : ℕ) → other < last → waits waiting other ≡ true → ComesFirst run.next run.rank other (rank_of ranks other))

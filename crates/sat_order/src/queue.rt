@@ -3,7 +3,7 @@ ghost use Rattle.std.specs.Prelude.{◌≡◌, ◌<◌, ◌≤◌, ◌+◌, ◌+
 ghost use Rattle.std.specs.List.{AllByRecursion, AllZip};
 ghost use Rattle.des_base.specs.declared.TheConstants.{VAR_LIMIT};
 ghost use Rattle.sat_order.specs.Waiting.{IsNext, NoneWaits, waits};
-ghost use Rattle.sat_order.specs.Queue.{AreRuns, EndsBehind, IsBest, IsFirstWaiting, IsMovedOn, IsPlaceOf, IsRankRun, Lengthens, LetsWait, WaitsNext};
+ghost use Rattle.sat_order.specs.Queue.{AreRuns, EndsBehind, GivesNext, IsFirstToWait, IsMovedOn, IsPlaceOf, IsRankRun, Lengthens, LetsWait, WaitsNext};
 
 use des_base::{Memory, VAR_LIMIT};
 use std::alloc::Global;
@@ -189,7 +189,7 @@ fn moved_on(run: RankRun, waiting: &[bool]) -> RankRun
 
 // The first variable that waits, from `next` on and before the end, or the end.
 fn first_waiting(waiting: &[bool], next: u32, end: u32) -> u32
-    ensures { IsFirstWaiting waiting.now next end result }
+    ensures { IsFirstToWait waiting.now next end result }
 {
     let mut var = next;
     'on: while var < end && !waits(waiting, var) {
@@ -210,7 +210,7 @@ fn waits(waiting: &[bool], var: u32) -> bool
 
 // Of the runs in which a variable waits, the first with the greatest rank.
 fn best(runs: &[RankRun]) -> Option<RankRun>
-    ensures { (ranks : List ℕ) (waiting : List Bool) (last : ℕ) → AreRuns ranks waiting 0 last runs.now → AllByRecursion (WaitsNext waiting) runs.now → IsBest ranks waiting last result }
+    ensures { (ranks : List ℕ) (waiting : List Bool) (last : ℕ) → AreRuns ranks waiting 0 last runs.now → AllByRecursion (WaitsNext waiting) runs.now → GivesNext ranks waiting last result }
 {
     let mut best: Option<RankRun> = None;
     for run in runs {
@@ -221,7 +221,7 @@ fn best(runs: &[RankRun]) -> Option<RankRun>
 
 // A run if a variable waits in it, and it has a greater rank than the best of those before it, which is kept otherwise.
 fn better(best: Option<RankRun>, run: RankRun) -> Option<RankRun>
-    ensures { (ranks : List ℕ) (waiting : List Bool) (first : ℕ) → IsRankRun ranks waiting first run → WaitsNext waiting run → IsBest ranks waiting first best → IsBest ranks waiting run.end result }
+    ensures { (ranks : List ℕ) (waiting : List Bool) (first : ℕ) → IsRankRun ranks waiting first run → WaitsNext waiting run → GivesNext ranks waiting first best → GivesNext ranks waiting run.end result }
 {
     if run.next >= run.end {
         return best;
