@@ -2,7 +2,7 @@
 use Rattle.std.proofs.Common.{arith}
 use Rattle.diagnose_cli.proofs.Limits.{by_large, by_within}
 use Rattle.diagnose_cli.proofs.Requested.{closes_asked}
-use Rattle.diagnose_cli.proofs.asking.QuestionAnswering.answer.Goals as goal
+use Rattle.diagnose_cli.proofs.asking.CommandQuestionAnswering.answer.Goals as goal
 
 pub returns-then-size-gt-MOST_SIZE-clause-closes : goal.returns-then-size-gt-MOST_SIZE-clause-closes
 returns-then-size-gt-MOST_SIZE-clause-closes g c texts read _ =
