@@ -4,7 +4,7 @@
 
 PROGRAM is the program as `rt run` builds it, crates/diagnose_cli/out/diagnose_cli, and REFINE the one that writes models finer, crates/refine_cli/out/refine_cli. The models are those of `show.py`, and nine more, each of which goes to some of the limits of a model: states, components, transitions, events, parts or the length of names; `MORE` has a line for each. Seconds are those of the processor, the least of five runs in turns. It's no part of the gate.
 
-On 1 December 2026, by builds without their proofs, with other work beside: 0.86, 1.9 and 1.1 times as long as `show` on the models of `show.py`, 16 MiB each, in at most 0.4 seconds. With names of 56 characters, 12 MiB, it's 3.0 times, and 4.5 with 47,500 states and 56,000 parts, in 0.7 and 0.5 seconds. The others are smaller, and nearly all that is done with them is refining: 3.6 to 19 times, in 0.03 to 0.25 seconds. Of these, what is written for those with 800, 960 and 996 further components, and for the one with 4,000 events, is 1.5 to 4 times as long as what is read.
+On 1 December 2026, by builds without their proofs, with other work beside: about as long as `show` on the models of `show.py`, 16 MiB each, in at most 0.24 seconds. With names of 56 characters, 12 MiB, it's 2.2 times, in 0.38 seconds, and 2.8 with 47,500 states and 56,000 parts, in 0.24. The others are smaller, 1 MiB at most, and take 0.05 seconds at most: the two of 1 MiB 1.1 and 2.5 times as long as `show`, the rest 2.3 to 7.0 times. Of these, what is written for those with 800, 960 and 996 further components, and for the one with 4,000 events, is 1.5 to 4 times as long as what is read.
 """
 import os
 import sys

@@ -22,6 +22,8 @@ ADVICE = {
     ("least_faults", "deadlines.rt", "missed_deadlines"): TRIED,
     ("least_faults", "loose.rt", "are_loose"): TRIED,
     ("least_faults", "loose.rt", "push_unpassed"): TRIED,
+    ("refinement", "additions.rt", "changes_in"): CHOSEN,
+    ("refinement", "additions.rt", "moves_of"): CHOSEN,
     ("refinement", "additions.rt", "plan"): CHOSEN,
     ("refinement", "additions.rt", "transitions"): CHOSEN,
     ("refinement", "change.rt", "lines"): CHOSEN,

@@ -9,13 +9,8 @@ use Rattle.std.proofs.lemmas.Bool.{cases_eq}
 use Rattle.des_base.proofs.BoolLemmas.{differ, itself}
 use Rattle.des_net.specs.declared.parts.Trans.{Trans}
 use Rattle.refinement.specs.declared.effect.Effect.{Effect}
-use Rattle.refinement.specs.Seen.{changes_so, effect_of}
-use Rattle.refinement.specs.Marking.{marked, no_effect, with_change}
-
--- the effects of all actions over these transitions
-pub record IsMarked (count state : ℕ) (ts : List Trans) (effects : List Effect) : Type 0 where
-  pub long : length effects ≡ count
-  pub each : (a : ℕ) → a < count → get_or effects a no_effect ≡ effect_of state ts a
+use Rattle.refinement.specs.Seen.{changes_so, effect_of, is_so}
+use Rattle.refinement.specs.Marking.{IsMarked, marked, no_effect, with_change}
 
 any_push : (p : Trans → Bool) (ts : List Trans) (t : Trans) → list_any p (ts ++ t ∷ []) ≡ (list_any p ts || p t)
 any_push p ts t = list_any-append p ts (t ∷ []) ∙ ap (λ b. list_any p ts || b) (alone (p t))
@@ -25,7 +20,7 @@ any_push p ts t = list_any-append p ts (t ∷ []) ∙ ap (λ b. list_any p ts ||
     alone false = refl
 
 -- the four tests of an effect
-four : (a b c d x y z w : Bool) → a ≡ x → b ≡ y → c ≡ z → d ≡ w
+pub four : (a b c d x y z w : Bool) → a ≡ x → b ≡ y → c ≡ z → d ≡ w
     → ◌≡◌ {A = Effect} (record { stays_out = a; enters = b; leaves = c; stays_in = d }) (record { stays_out = x; enters = y; leaves = z; stays_in = w })
 four a b c d x y z w e f g h i = record { stays_out = e i; enters = f i; leaves = g i; stays_in = h i }
 
@@ -36,8 +31,8 @@ more_here state a ts t is = four _ _ _ _ _ _ _ _ (one false false) (one false tr
     taken : (t.action == a) ≡ true
     taken = subst (λ n. (n == a) ≡ true) (sym is) (itself a)
 
-    one : (before after : Bool) → (list_any (changes_so state a before after) ts || (Rattle.refinement.specs.Seen.is_so before (t.from == state) && Rattle.refinement.specs.Seen.is_so after (t.to == state))) ≡ list_any (changes_so state a before after) (ts ++ t ∷ [])
-    one before after = sym (any_push (changes_so state a before after) ts t ∙ ap (λ b. list_any (changes_so state a before after) ts || (b && (Rattle.refinement.specs.Seen.is_so before (t.from == state) && Rattle.refinement.specs.Seen.is_so after (t.to == state)))) taken)
+    one : (before after : Bool) → (list_any (changes_so state a before after) ts || (is_so before (t.from == state) && is_so after (t.to == state))) ≡ list_any (changes_so state a before after) (ts ++ t ∷ [])
+    one before after = sym (any_push (changes_so state a before after) ts t ∙ ap (λ b. list_any (changes_so state a before after) ts || (b && (is_so before (t.from == state) && is_so after (t.to == state)))) taken)
 
 -- with a transition that doesn't take it
 more_elsewhere : (state a : ℕ) (ts : List Trans) (t : Trans) → t.action ≢ a → effect_of state ts a ≡ effect_of state (ts ++ t ∷ []) a
@@ -49,7 +44,7 @@ more_elsewhere state a ts t other = four _ _ _ _ _ _ _ _ (one false false) (one 
 
     one : (before after : Bool) → list_any (changes_so state a before after) ts ≡ list_any (changes_so state a before after) (ts ++ t ∷ [])
     one before after = sym (any_push (changes_so state a before after) ts t
-        ∙ ap (λ b. list_any (changes_so state a before after) ts || (b && (Rattle.refinement.specs.Seen.is_so before (t.from == state) && Rattle.refinement.specs.Seen.is_so after (t.to == state)))) (differ t.action a other)
+        ∙ ap (λ b. list_any (changes_so state a before after) ts || (b && (is_so before (t.from == state) && is_so after (t.to == state)))) (differ t.action a other)
         ∙ or_false _)
 
 pub marks : (count state : ℕ) (ts : List Trans) (effects : List Effect) (t : Trans) → IsMarked count state ts effects → t.action < count → IsMarked count state (ts ++ t ∷ []) (marked state effects t)

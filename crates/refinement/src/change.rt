@@ -15,6 +15,16 @@ pub enum Change {
 }
 
 impl Change {
+    /// All but `Idle`.
+    pub const ALL: [Change; 6] = [
+        Change::Enter,
+        Change::Leave,
+        Change::Stay,
+        Change::Flip,
+        Change::Clear,
+        Change::Set,
+    ];
+
     /// The change by which the other component's action has this effect; none if what comes after doesn't follow from what was before.
     pub fn of(effect: &Effect) -> Option<Change> {
         match (

@@ -1,7 +1,8 @@
 // The text of a network with more components.
 ghost use Rattle.std.specs.Prelude.{◌≤◌, ◌<◌, ◌^◌, length};
 
-use crate::additions::{Addition, Move};
+use crate::additions::{Addition, Move, Planned, changes_in, moves_of};
+use crate::change::Change;
 use des_base::{Lines, Memory, Name, NameFault, NameTable, push_decimal};
 use des_net::{MOST_COMPONENTS, Network};
 use model_text::print_model;
@@ -17,11 +18,7 @@ const FIRST_EVENT: &[u8] = b"\nevent ";
 ///
 /// It is the printed text of the network, with the lines of the additions before the events, and with their parts behind the
 /// parts of each event.
-pub fn draft(
-    alloc: Global,
-    net: &Network,
-    additions: &[Addition],
-) -> Result<Option<Vec<u8>>, Memory> {
+pub fn draft(alloc: Global, net: &Network, plan: &Planned) -> Result<Option<Vec<u8>>, Memory> {
     let mut plain = Vec::new(alloc);
     print_model(net, &mut plain)?;
     if plain.len() > MOST_BYTES {
@@ -30,7 +27,7 @@ pub fn draft(
     let (components, events) = plain.as_slice().split_at(components_len(plain.as_slice()));
     let mut text = Vec::from_slice(alloc, components)?;
     let mut further = no_parts(alloc, net.events())?;
-    if !push_additions(alloc, net, additions, &mut text, &mut further)? {
+    if !push_additions(alloc, net, plan, &mut text, &mut further)? {
         return Ok(None);
     }
     push_events(events, further.as_slice(), &mut text)?;
@@ -63,19 +60,24 @@ fn no_parts(alloc: Global, events: u32) -> Result<Vec<Vec<u8>>, Memory> {
 fn push_additions(
     alloc: Global,
     net: &Network,
-    additions: &[Addition],
+    plan: &Planned,
     text: &mut Vec<u8>,
     further: &mut Vec<Vec<u8>>,
 ) -> Result<bool, Memory> {
-    let mut names = NameTable::new(alloc);
-    for addition in additions {
+    let mut names = Names::new(alloc);
+    for addition in plan.additions.as_slice() {
         if addition.chosen {
-            let Some(name) = name_of(alloc, net, &names, addition)? else {
+            let Some(by_action) = plan.touching.get(addition.follower.comp.0 as usize) else {
                 return Ok(false);
             };
-            push_component(&name, addition, text)?;
-            push_parts(&name, addition.moves.as_slice(), further)?;
-            if !add_name(&mut names, name)? {
+            let Some(name) = names.name_of(alloc, net, addition.title.as_slice())? else {
+                return Ok(false);
+            };
+            let moves = moves_of(alloc, addition.moving.as_slice(), by_action.as_slice())?;
+            let changes = changes_in(alloc, moves.as_slice())?;
+            push_component(&name, addition, changes.as_slice(), text)?;
+            push_parts(&name, moves.as_slice(), further)?;
+            if !add_name(&mut names.taken, name)? {
                 return Ok(false);
             }
         }
@@ -83,24 +85,41 @@ fn push_additions(
     Ok(true)
 }
 
-// The title of the addition if it is a name and free, or else the first of `state-1`, `state-2` and so on that is free.
-fn name_of(
-    alloc: Global,
-    net: &Network,
-    names: &NameTable,
-    addition: &Addition,
-) -> Result<Option<Name>, Memory> {
-    if let Some(name) = free_name(alloc, net, names, addition.title.as_slice())? {
-        return Ok(Some(name));
-    }
-    for number in 1..=MOST_COMPONENTS as u64 {
-        let mut text = Vec::from_slice(alloc, b"state-")?;
-        push_decimal(&mut text, number)?;
-        if let Some(name) = free_name(alloc, net, names, text.as_slice())? {
-            return Ok(Some(name));
+// The names of additions: those that are taken, and the number from which on `state-1`, `state-2` and so on may be free.
+#[derive(Drop)]
+struct Names {
+    taken: NameTable,
+    number: u64,
+}
+
+impl Names {
+    fn new(alloc: Global) -> Names {
+        Names {
+            taken: NameTable::new(alloc),
+            number: 1,
         }
     }
-    Ok(None)
+
+    // The title if it is a name and free, or else the first of `state-1`, `state-2` and so on that is free.
+    fn name_of(
+        &mut self,
+        alloc: Global,
+        net: &Network,
+        title: &[u8],
+    ) -> Result<Option<Name>, Memory> {
+        if let Some(name) = free_name(alloc, net, &self.taken, title)? {
+            return Ok(Some(name));
+        }
+        for number in self.number..=MOST_COMPONENTS as u64 {
+            let mut text = Vec::from_slice(alloc, b"state-")?;
+            push_decimal(&mut text, number)?;
+            if let Some(name) = free_name(alloc, net, &self.taken, text.as_slice())? {
+                self.number = number;
+                return Ok(Some(name));
+            }
+        }
+        Ok(None)
+    }
 }
 
 // The text as a name, if it is one that neither a component of the network has nor another addition.
@@ -129,13 +148,18 @@ fn add_name(names: &mut NameTable, name: Name) -> Result<bool, Memory> {
     Ok(true)
 }
 
-fn push_component(name: &Name, addition: &Addition, text: &mut Vec<u8>) -> Result<(), Memory> {
+fn push_component(
+    name: &Name,
+    addition: &Addition,
+    changes: &[Change],
+    text: &mut Vec<u8>,
+) -> Result<(), Memory> {
     text.extend_from_slice(b"component ")?;
     text.extend_from_slice(name.as_str().as_bytes())?;
     text.extend_from_slice(b"\n")?;
     push_state("state no", addition.starts_out, text)?;
     push_state("state yes", addition.starts_in, text)?;
-    for change in addition.changes.as_slice() {
+    for change in changes {
         text.extend_from_slice(change.lines().as_bytes())?;
     }
     Ok(())

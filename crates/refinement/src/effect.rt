@@ -1,8 +1,11 @@
 // How an action changes whether a component is in a state.
-ghost use Rattle.std.specs.Prelude.{◌≡◌, ◌<◌, length, IfOk};
+ghost use Rattle.std.specs.Prelude.{◌≡◌, ◌<◌, All, length, IfOk, slice_index_or, slice_set};
+ghost use Rattle.des_net.specs.Network.{component_at};
 ghost use Rattle.refinement.specs.Seen.{AreEffects};
-ghost use Rattle.refinement.specs.Marking.{with_change, marked};
+ghost use Rattle.refinement.specs.Marking.{HasOthers, IsMarked, marked, no_effect, staying_out, with_change};
+ghost use Rattle.refinement.specs.Near.{IsByState};
 
+use crate::by_state::{ByState, counts_of, near_of};
 use des_base::{CompId, Memory, StateId};
 use des_net::{Network, Trans};
 use std::alloc::Global;
@@ -18,6 +21,14 @@ pub struct Effect {
 
 const NOTHING: Effect = Effect {
     stays_out: false,
+    enters: false,
+    leaves: false,
+    stays_in: false,
+};
+
+/// The effect of an action whose transitions neither begin nor end in the state.
+pub const ELSEWHERE: Effect = Effect {
+    stays_out: true,
     enters: false,
     leaves: false,
     stays_in: false,
@@ -42,13 +53,34 @@ pub fn effects_of(
     alloc: Global,
     net: &Network,
     comp: CompId,
+    sorted: &ByState,
     state: StateId,
 ) -> Result<Vec<Effect>, Memory>
-    requires { comp < length net.now.components }
+    requires comp { comp < length net.now.components }
+    requires state { state < length (component_at net.now comp).state_names }
+    requires sorted { IsByState (component_at net.now comp) sorted.now.near.items sorted.now.taking.items }
     ensures { IfOk result (λ effects. AreEffects net.now comp state effects.items) }
 {
-    let mut effects = vec![in alloc; NOTHING; net.actions(comp) as usize]?;
-    for trans in net.trans(comp) {
+    let near = near_of(sorted, state);
+    let actions = net.actions(comp);
+    let mut effects = marks_of(alloc, near, actions, state)?;
+    let counts = counts_of(alloc, near, actions)?;
+    mark_others(&mut effects, counts.as_slice(), sorted.taking.as_slice());
+    Ok(effects)
+}
+
+// The effect of each of so many actions over these transitions.
+fn marks_of(
+    alloc: Global,
+    transitions: &[Trans],
+    actions: u32,
+    state: StateId,
+) -> Result<Vec<Effect>, Memory>
+    requires { All (λ t. t.action < actions) transitions.now }
+    ensures { IfOk result (λ effects. IsMarked actions state transitions.now effects.items) }
+{
+    let mut effects = vec![in alloc; NOTHING; actions as usize]?;
+    for trans in transitions {
         mark(&mut effects, *trans, state);
     }
     Ok(effects)
@@ -61,4 +93,22 @@ fn mark(effects: &mut Vec<Effect>, trans: Trans, state: StateId)
 {
     let at = trans.action.0 as usize;
     effects[at] = effects[at].with(trans.from == state, trans.to == state);
+}
+
+// Marks of each action whether more transitions take it than those that begin or end in the state: the others stay out of it.
+fn mark_others(effects: &mut Vec<Effect>, counts: &[usize], taking: &[usize])
+    requires counts { length counts.now ≡ length effects.old.items }
+    requires taking { length taking.now ≡ length effects.old.items }
+    ensures { HasOthers effects.old.items counts.now taking.now effects.new.items }
+{
+    for action in 0..effects.len() {
+        mark_other(effects, action, counts[action] < taking[action]);
+    }
+}
+
+fn mark_other(effects: &mut Vec<Effect>, action: usize, out: bool)
+    requires { action < length effects.old.items }
+    ensures { effects.new.items ≡ slice_set effects.old.items action (staying_out (slice_index_or effects.old.items action no_effect) out) }
+{
+    effects[action].stays_out = out;
 }

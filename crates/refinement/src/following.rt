@@ -1,13 +1,19 @@
 // Whether a component follows another.
-ghost use Rattle.std.specs.Prelude.{◌≡◌, ◌<◌, ◌↔◌, Bool, Some, None, true, length, IfOk, IsTrue};
-ghost use Rattle.des_net.specs.Network.{action_at, parts_of};
+ghost use Rattle.std.specs.Prelude.{◌≡◌, ◌<◌, ◌↔◌, Bool, Some, None, true, length, IfOk, IfSome, IsTrue};
+ghost use Rattle.des_net.specs.Network.{component_at};
 ghost use Rattle.refinement.specs.Refinement.{FollowsSome};
+ghost use Rattle.refinement.specs.Marking.{Passes};
+ghost use Rattle.refinement.specs.Near.{IsByState};
 ghost use Rattle.refinement.specs.Seen.{MoveAlike, MovesAlike, StartsSo};
+ghost use Rattle.refinement.specs.Touching.{AreCompared, TouchAlike};
 
+use crate::by_state::{ByState, by_state};
 use crate::effect::{Effect, effects_of};
 use crate::follower::Follower;
-use des_base::{ActionId, CompId, EventId, Memory, StateId};
-use des_net::{Network, Part};
+use crate::testing::Compared;
+use crate::touches::{Touch, touches_at};
+use des_base::{ActionId, CompId, Memory, StateId};
+use des_net::Network;
 use std::alloc::Global;
 
 /// The state of a follower in which the other one is in its state.
@@ -19,20 +25,24 @@ const STATES: u32 = 2;
 /// Whether a component of the finer network follows another one, by this state.
 pub fn follows(
     alloc: Global,
-    fine: &Network,
-    net: &Network,
-    follower: &Follower,
+    compared: Compared<'_>,
+    sorted: &ByState,
+    follower: Follower,
     added: CompId,
 ) -> Result<bool, Memory>
-    requires old { follower.now.comp < length net.now.components }
-    requires new { added < length fine.now.components }
-    requires events { length fine.now.events ≡ length net.now.events }
-    ensures { IfOk result (λ yes. yes ≡ true → FollowsSome net.now fine.now added) }
+    requires old { follower.comp < length compared.net.now.components }
+    requires new { added < length compared.fine.now.components }
+    requires compared { AreCompared compared.net.now compared.fine.now compared.touches.now compared.further.now }
+    requires sorted { IsByState (component_at compared.net.now follower.comp) sorted.now.near.items sorted.now.taking.items }
+    ensures { IfOk result (λ yes. yes ≡ true → FollowsSome compared.entry.net.now compared.entry.fine.now added) }
 {
-    if fine.states(added) != STATES || !starts_alike(fine, net, follower, added) {
+    if follower.state.0 >= compared.net.states(follower.comp)
+        || compared.fine.states(added) != STATES
+        || !starts_alike(compared.fine, compared.net, &follower, added)
+    {
         return Ok(false);
     }
-    moves_alike(alloc, fine, net, follower, added)
+    moves_alike(alloc, compared, sorted, follower, added)
 }
 
 // Whether both start alike, as far as is seen.
@@ -62,60 +72,70 @@ pub fn starts_so(net: &Network, comp: CompId, state: StateId, inside: bool) -> b
 // Whether each event does the same to both, as far as is seen.
 fn moves_alike(
     alloc: Global,
-    fine: &Network,
-    net: &Network,
-    follower: &Follower,
+    compared: Compared<'_>,
+    sorted: &ByState,
+    follower: Follower,
     added: CompId,
 ) -> Result<bool, Memory>
-    requires old { follower.now.comp < length net.now.components }
-    requires new { added < length fine.now.components }
-    requires events { length fine.now.events ≡ length net.now.events }
-    ensures { IfOk result (λ yes. yes ≡ true → MoveAlike net.now fine.now follower.now.comp follower.now.state added) }
+    requires old { follower.comp < length compared.net.now.components }
+    requires state { follower.state < length (component_at compared.net.now follower.comp).state_names }
+    requires new { added < length compared.fine.now.components }
+    requires two { length (component_at compared.fine.now added).state_names ≡ 2 }
+    requires compared { AreCompared compared.net.now compared.fine.now compared.touches.now compared.further.now }
+    requires sorted { IsByState (component_at compared.net.now follower.comp) sorted.now.near.items sorted.now.taking.items }
+    ensures { IfOk result (λ yes. yes ≡ true → MoveAlike compared.entry.net.now compared.entry.fine.now follower.comp follower.state added) }
 {
-    let old = effects_of(alloc, net, follower.comp, follower.state)?;
-    let new = effects_of(alloc, fine, added, YES)?;
-    for event in 0..net.events() {
-        let event = EventId(event);
-        let action = action_of(net, event, follower.comp);
-        let further = action_of(fine, event, added);
-        if !is_alike(old.as_slice(), new.as_slice(), action, further) {
-            return Ok(false);
+    compared.net.is_built();
+    let old = effects_of(alloc, compared.net, follower.comp, sorted, follower.state)?;
+    let further = by_state(alloc, compared.fine, added)?;
+    let new = effects_of(alloc, compared.fine, added, &further, YES)?;
+    Ok(touch_alike(
+        old.as_slice(),
+        new.as_slice(),
+        touches_at(compared.touches, follower.comp),
+        touches_at(compared.further, added),
+    ))
+}
+
+// Whether the events that touch the one component do the same to the other, as far as is seen, and no others touch that one.
+fn touch_alike(old: &[Effect], new: &[Effect], touches: &[Touch], further: &[Touch]) -> bool
+    ensures { result ≡ true → TouchAlike old.now new.now touches.now further.now }
+{
+    let mut next = 0;
+    for touch in touches {
+        match place_after(old, new, *touch, further, next) {
+            Some(after) => next = after,
+            None => return false,
         }
     }
-    Ok(true)
+    next == further.len()
 }
 
-// The action by which an event moves a component.
-fn action_of(net: &Network, event: EventId, comp: CompId) -> Option<ActionId>
-    requires { event < length net.now.events }
-    ensures { result ≡ action_at (parts_of net.now event) comp }
-{
-    action_in(net.event(event).parts.as_slice(), comp)
-}
-
-fn action_in(parts: &[Part], comp: CompId) -> Option<ActionId>
-    ensures { result ≡ action_at parts.now comp }
-{
-    parts
-        .iter()
-        .find(|part| part.comp == comp)
-        .map(|part| part.action)
-}
-
-// Whether an event with these actions does the same to both, as far as is seen.
-fn is_alike(
+// The place in the list behind the event, if it does the same to both.
+fn place_after(
     old: &[Effect],
     new: &[Effect],
-    action: Option<ActionId>,
-    further: Option<ActionId>,
-) -> bool
-    ensures { result ≡ true → MovesAlike old.now new.now action further }
+    touch: Touch,
+    further: &[Touch],
+    next: usize,
+) -> Option<usize>
+    ensures { IfSome result (λ after. Passes old.now new.now touch further.now next after) }
 {
-    match (action, further) {
-        (None, None) => true,
-        (None, Some(_)) => false,
-        (Some(action), None) => is_idle(old, action),
-        (Some(action), Some(further)) => has_same_effect(old, new, action, further),
+    match further.get(next) {
+        Some(other) if other.event == touch.event => {
+            if has_same_effect(old, new, touch.action, other.action) {
+                Some(next + 1)
+            } else {
+                None
+            }
+        }
+        _ => {
+            if is_idle(old, touch.action) {
+                Some(next)
+            } else {
+                None
+            }
+        }
     }
 }
 

@@ -10,16 +10,19 @@
 #![tactic(auto)]
 
 mod additions;
+mod by_state;
 mod change;
 mod comparing;
 mod drafting;
 mod effect;
 mod follower;
 mod following;
+mod growing;
 mod refining;
 mod room;
 mod rule;
 mod testing;
+mod touches;
 
 pub use refining::refine;
 pub use rule::{Candidate, RarelyChanged, Rule};

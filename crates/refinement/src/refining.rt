@@ -23,12 +23,12 @@ pub fn refine<R: Rule>(alloc: Global, net: &Network, rule: &R) -> Result<Option<
     ensures refinement { IfOk result (λ finer. IfSome finer (λ fine. IsRefinementOf fine net.now)) }
     ensures as_read { IfOk result (λ finer. IfSome finer IsAsRead) }
 {
-    let additions = plan(alloc, net, rule)?;
-    let followers = followers_of(alloc, additions.as_slice())?;
+    let plan = plan(alloc, net, rule)?;
+    let followers = followers_of(alloc, plan.additions.as_slice())?;
     if followers.is_empty() {
         return Ok(None);
     }
-    match draft(alloc, net, additions.as_slice())? {
+    match draft(alloc, net, &plan)? {
         Some(text) => read_refinement(alloc, net, text.as_slice(), followers.as_slice()),
         None => Ok(None),
     }

@@ -1,6 +1,6 @@
 // How many components, transitions and parts a network may have still.
-use crate::additions::{Addition, Move};
-use des_base::{CompId, EventId, Memory};
+use crate::additions::{Addition, ByAction, Moving, events_by};
+use des_base::{CompId, EventId, ListOf, Memory};
 use des_net::{MOST_COMPONENTS, MOST_PARTS, MOST_TRANSITIONS, Network};
 use std::alloc::Global;
 
@@ -32,32 +32,41 @@ impl Room {
     }
 
     /// Takes the room that an addition needs, if there is enough.
-    pub fn take(&mut self, addition: &Addition) -> bool {
-        let moves = addition.moves.as_slice();
+    pub fn take(&mut self, addition: &Addition, touching: &[ByAction]) -> bool {
+        let Some(by_action) = touching.get(addition.follower.comp.0 as usize) else {
+            return false;
+        };
+        let moving = addition.moving.as_slice();
         let transitions = addition.transitions();
         if self.components == 0
             || transitions > self.transitions
-            || !have_room(self.parts.as_slice(), moves)
+            || !have_room(self.parts.as_slice(), moving, by_action.as_slice())
         {
             return false;
         }
         self.components -= 1;
         self.transitions -= transitions;
-        take_parts(&mut self.parts, moves);
+        for one in moving {
+            take_parts(&mut self.parts, events_by(by_action.as_slice(), one.action));
+        }
         true
     }
 }
 
-// Whether each of the events has room for a part.
-fn have_room(parts: &[usize], moves: &[Move]) -> bool {
-    moves.iter().all(|one| parts
-        .get(one.event.0 as usize)
-        .is_some_and(|room| *room > 0))
+// Whether each of the events that move it has room for a part.
+fn have_room(parts: &[usize], moving: &[Moving], by_action: &[ListOf<EventId>]) -> bool {
+    moving
+        .iter()
+        .all(|one| have_parts(parts, events_by(by_action, one.action)))
 }
 
-fn take_parts(parts: &mut Vec<usize>, moves: &[Move]) {
-    for one in moves {
-        if let Some(room) = parts.get_mut(one.event.0 as usize) {
+fn have_parts(parts: &[usize], events: &[EventId]) -> bool {
+    events.iter().all(|event| parts.get(event.0 as usize).is_some_and(|room| *room > 0))
+}
+
+fn take_parts(parts: &mut Vec<usize>, events: &[EventId]) {
+    for event in events {
+        if let Some(room) = parts.get_mut(event.0 as usize) {
             *room = room.saturating_sub(1);
         }
     }

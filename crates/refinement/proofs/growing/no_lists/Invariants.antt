@@ -1,0 +1,5 @@
+use Rattle.std.proofs.Common.{◌≡◌, [], replicate}
+use Rattle.refinement.proofs.growing.no_lists.Given as goal
+
+abbrev pub invariant-loop : goal.invariant-loop
+invariant-loop g l = l.lists.items ≡ replicate l.counter []
