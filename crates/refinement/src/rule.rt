@@ -1,4 +1,6 @@
 // Which states get a component of their own.
+ghost use Rattle.std.specs.Prelude.{◌≤◌, ◌<◌, ◌*◌, ◌↔◌, IsTrue};
+
 use des_base::{CompId, StateId};
 
 /// A state of a component that may get a component of its own: what each event does to it follows from what it was before.
@@ -26,7 +28,9 @@ pub trait Rule {
 pub struct RarelyChanged;
 
 impl Rule for RarelyChanged {
-    fn wants(&self, candidate: &Candidate) -> bool {
+    fn wants(&self, candidate: &Candidate) -> bool
+        ensures { IsTrue result ↔ (3 ≤ candidate.now.states) × (0 < candidate.now.moving) × (2 * candidate.now.moving ≤ candidate.now.touching) }
+    {
         candidate.states >= 3 && candidate.moving > 0 && candidate.moving <= candidate.touching / 2
     }
 }
