@@ -13,14 +13,11 @@ use des_base::{Memory, Shelf, Sink, WordList};
 use des_net::Network;
 use endings::{Kind, Reply, Stop, fetch_model, put_once};
 use model_text::{models_read_back, print_model};
-use refinement::{RarelyChanged, refine};
+use refinement::{MOST_BYTES, RarelyChanged, refine};
 use std::alloc::Global;
 
 // The place of the model's name among the words, and so its number.
 const MODEL: u32 = 1;
-
-// How many bytes the text of a model may have.
-const MODEL_LIMIT: usize = 16_777_216;
 
 /// Puts the refined text of the model that the words name, and answers the exit status. The words are those of the command
 /// line, the program's own name first.
@@ -57,7 +54,7 @@ fn refined_reply(alloc: Global, net: &Network) -> Result<Reply, Memory>
 {
     if let Some(fine) = refine(alloc, net, &RarelyChanged)? {
         let text = text_of(alloc, &fine)?;
-        if text.len() <= MODEL_LIMIT {
+        if text.len() <= MOST_BYTES {
             return Ok(Reply::new(Kind::Done, text));
         }
     }

@@ -24,5 +24,6 @@ mod rule;
 mod testing;
 mod touches;
 
+pub use drafting::MOST_BYTES;
 pub use refining::refine;
 pub use rule::{Candidate, RarelyChanged, Rule};
