@@ -3,7 +3,7 @@
     python3 bench/diagnose.py PROGRAM [--earlier EARLIER] [--refined] [--seconds] [FAMILY..]
 
 PROGRAM is the program as `rt run` builds it, crates/diagnose_cli/out/diagnose_cli, and EARLIER one of another commit. With families it asks only the questions of these (`torus`, `"equal alarms"`).
-Where CaDiCaL's library is installed (Debian: libcadical-dev), and a C++ compiler, it is timed on the formulas for all bounds up to the answer, one after another (`ascending.cpp`), unless more than 30 faults are needed.
+Where CaDiCaL's library is installed (Debian: libcadical-dev), and a C++ compiler, it is timed on the formulas for all bounds up to the answer, one after another (`ascending.cpp`), unless more than 30 faults are needed or no run is known.
 With --refined the program is asked about the model as tools/refine.py writes it as well (docs/scripts.md, *A finer model*). With --seconds neither clauses nor first runs are counted, which takes a fifth of the time.
 Who has no answer after 20 seconds of the processor is late. It's no part of the gate, and takes some twenty minutes where nothing else is done.
 
@@ -56,7 +56,30 @@ So the program takes 0.54 of the library's seconds over all families, 0.5 and 0.
 The worst answered ones are a protection's line (5.3; late within twice the steps, where the library takes 6 seconds) and a torus in blocks (2.5). First runs have 1.5 times the least number of faults in all (4.4 before), and 1.84 times in the geometric mean. Memory is 1.01 of what it was in the mean of the families; it follows the clauses that are learnt, so single questions take up to 1.9 times as much.
 An empty log of 45 components within 1,000 steps, nearly as large as a question may be, takes no clause, 1.1 seconds and 375 MiB: by a profile nearly all of this is spent on the writing of the formula, and 2 % on watches.
 
-About refined models four families' worth was asked on the same day with --refined and --seconds, by a build without its proof, under heavy load, with 10 seconds for each (the other families weren't asked; protections gain nothing, see docs/speed.md). To the library's seconds about the model as written, and to those of the program about it: toruses 0.06 and 0.09 in their whole order, 0.05 and 0.10 in that of each component, 0.17 and 0.14 in blocks; stations 0.26 and 0.37; adders 0.37 and 0.44; meshes 0.65 and 1.11 (the worst 1.46, 0.08 seconds).
+About refined models, as the program of the end of that day answers (of commit 2fec7321, proved; what the guards of a log imply no longer stands in learnt clauses), in one run with --refined and --seconds of ten minutes, on one of four processors, the others busy:
+
+| Family | Questions | As written, seconds to CaDiCaL's library's | the worst | Refined, to the library's about the model as written | the worst | Refined, to as written | the worst |
+|---|---|---|---|---|---|---|---|
+| empty log | 5 | 0.24 | 0.31 | 0.30 | 0.43 | 1.25 | 1.41 |
+| torus, whole order | 6 | 0.78 | 1.29 | 0.07 | 0.17 | 0.09 | 0.28 |
+| torus, order of each component | 6 | 0.64 | 1.74 | 0.08 | 0.43 | 0.13 | 0.25 |
+| torus, order of blocks | 6 | 0.84 | 1.84 | 0.15 | 0.38 | 0.08 | 0.22 |
+| telecom | 12 | 0.76 | 1.27 | 0.30 | 0.84 | 0.39 | 1.29 |
+| protection | 13 | 0.97 | 3.17 | 1.15 | 4.21 | 1.21 | 1.66 |
+| adder | 5 | 0.91 | 1.56 | 0.34 | 0.52 | 0.38 | 0.66 |
+| alignments | 11 | 1.46 | 2.69 | 0.42 | 2.74 | 0.29 | 1.31 |
+| two devices | 3 | 1.78 | 1.78 | 2.01 | 2.01 | 1.13 | 1.13 |
+| hidden wires | 3 | 0.93 | 1.22 | 0.99 | 1.26 | 1.06 | 1.16 |
+| units | 13 | 0.33 | 0.45 | 0.34 | 0.46 | 0.99 | 1.09 |
+| valves | 3 | 0.14 | 0.23 | 0.15 | 0.23 | 1.03 | 1.06 |
+| stations | 4 | 0.66 | 0.93 | 0.19 | 0.28 | 0.29 | 0.31 |
+| meshes | 3 | 0.69 | 1.38 | 0.55 | 1.21 | 0.79 | 1.09 |
+| equal alarms | 3 | 0.50 | 0.85 | 0.48 | 0.78 | 0.96 | 1.00 |
+| lamps | 5 | 0.14 | 0.22 | 0.13 | 0.24 | 0.95 | 1.08 |
+| grids | 22 | 1.20 | 5.10 | 0.21 | 0.87 | 0.17 | 1.10 |
+| all | 123 | 0.63 | | 0.31 | | 0.46 | |
+
+Two more questions, of a protection and of equal alarms, were answered about neither model and stand in none of these means. As written five grids in the order of each component were late, refined none: they took 0.2 to 3.8 seconds, where the library takes 3.9 to 16 and is late on the last. Where alarms leave nothing to guess, or nothing is seen, the further components are only more to write: empty logs and protections take a fifth longer.
 
 What stays dear are more steps than a log needs. With 1.5 times and twice as many steps it takes so many times as many clauses (and twenty more, in geometric means over the questions that were answered): units 2.2 and 2.6, grids 2.8, protection 5.6 and 12, telecom 9.9 and 35, torus 24 and 48 in
 the whole order, 7 and 46 in that of each component, 17 and 107 in blocks; meshes 0.9. bench/NOTES.md says what was tried against that.
@@ -348,8 +371,8 @@ def rows(programs, cadical, folder, families, extra):
         each = [told(program, files, steps, extra.has_counts) for program in programs]
         other = told(programs[0], finer(folder, files), steps, False) if extra.is_refined else None
         known = [faults_of(it.answer) if is_answer(it.answer) else it.first for it in [*each, *[other] * extra.is_refined]]
-        faults = min([it for it in known if it is not None], default=0)
-        third = ascended(programs[0], cadical, files, steps, faults) if cadical and faults <= MOST_ASCENDED else None
+        faults = min([it for it in known if it is not None], default=None)
+        third = ascended(programs[0], cadical, files, steps, faults) if cadical and faults is not None and faults <= MOST_ASCENDED else None
         yield Row(family, name, steps, each[0], each[1] if each[1:] else None, other, third)
 
 
