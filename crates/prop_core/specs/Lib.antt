@@ -1,5 +1,7 @@
+pub mod Literal
 pub mod Clauses
 pub mod LiteralNumbers
+pub mod SameLiterals
 pub mod Derivation
 pub mod PieceList
 pub mod ClauseStore

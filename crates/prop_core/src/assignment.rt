@@ -73,6 +73,8 @@ impl Assignment {
         requires { HasValues (length self.now) clause.now }
         ensures { result ≡ clause_true (value_in self.now) clause.now }
     {
-        clause.iter().any(|lit| self.value(lit.var) == lit.positive)
+        clause
+            .iter()
+            .any(|lit| self.value(lit.var()) == lit.is_positive())
     }
 }
