@@ -39,7 +39,7 @@ pub fn mark_pair(marks: &[bool], lit: Lit) -> MarkPair
     ensures itself { result.itself ≡ slice_index_or marks.now (literal_number lit) false }
     ensures negation { result.negation ≡ slice_index_or marks.now (literal_number (negation lit)) false }
 {
-    let negative = 2 * lit.var as usize;
+    let negative = 2 * lit.var() as usize;
     if negative + 1 >= marks.len() {
         return MarkPair {
             itself: marked(marks, lit),
@@ -47,7 +47,7 @@ pub fn mark_pair(marks: &[bool], lit: Lit) -> MarkPair
         };
     }
     let (first, second) = (marks[negative], marks[negative + 1]);
-    if lit.positive {
+    if lit.is_positive() {
         MarkPair {
             itself: second,
             negation: first,
