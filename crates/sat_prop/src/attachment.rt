@@ -98,7 +98,7 @@ fn forcing(trail: &Trail, clause: &[Lit], seen: u32) -> Option<(Lit, Lit)>
     trail.is_sound();
     let (first, second) = two_literals(trail, clause)?;
     let place = trail.falls(second);
-    if trail.value(first.var).is_some() || place >= seen {
+    if trail.value(first.var()).is_some() || place >= seen {
         return None;
     }
     if replacement(trail, clause, first, place).is_some() {
@@ -127,7 +127,7 @@ fn latest(trail: &Trail, clause: &[Lit], but: Option<Lit>) -> Option<Lit>
 {
     let mut best: Option<Lit> = None;
     for lit in clause {
-        if but != Some(*lit) && is_later(trail, best, *lit) {
+        if but != Some(*lit) && is_later(trail, &best, *lit) {
             best = Some(*lit);
         }
     }
@@ -135,11 +135,11 @@ fn latest(trail: &Trail, clause: &[Lit], but: Option<Lit>) -> Option<Lit>
 }
 
 // Whether a literal became false later than the best so far.
-fn is_later(trail: &Trail, best: Option<Lit>, lit: Lit) -> bool
-    ensures { IfNone best (result ≡ true) }
+fn is_later(trail: &Trail, best: &Option<Lit>, lit: Lit) -> bool
+    ensures { IfNone best.now (result ≡ true) }
 {
     match best {
-        Some(best) => trail.falls(best) < trail.falls(lit),
+        Some(best) => trail.falls(*best) < trail.falls(lit),
         None => true,
     }
 }

@@ -115,8 +115,8 @@ impl Trail {
         ensures { self.new ≡ with_true_literal self.old lit None }
     {
         self.starts.push(self.literals.len() as u32).unwrap();
-        set(&mut self.values, lit.var, Some(lit.positive));
-        set(&mut self.places, lit.var, self.literals.len() as u32);
+        set(&mut self.values, lit.var(), Some(lit.is_positive()));
+        set(&mut self.places, lit.var(), self.literals.len() as u32);
         append(&mut self.literals, lit);
         append(&mut self.reasons, None);
         append(&mut self.levels, self.starts.len() as u32);
@@ -231,8 +231,8 @@ impl Trail {
         ensures { result ≡ is_true (take (place + 1) self.now.literals) lit }
     {
         self.is_sound();
-        match self.value(lit.var) {
-            Some(value) => value == lit.positive && self.place_of(lit.var) <= place,
+        match self.value(lit.var()) {
+            Some(value) => value == lit.is_positive() && self.place_of(lit.var()) <= place,
             None => false,
         }
     }
@@ -242,12 +242,12 @@ impl Trail {
         ensures { (place : ℕ) → place < result → place < length self.now.literals → literal_at self.now.literals place ≡ negation lit → ⊥ }
     {
         self.is_sound();
-        match self.value(lit.var) {
+        match self.value(lit.var()) {
             Some(value) => {
-                if value == lit.positive {
+                if value == lit.is_positive() {
                     u32::MAX
                 } else {
-                    self.place_of(lit.var)
+                    self.place_of(lit.var())
                 }
             }
             None => u32::MAX,
@@ -273,9 +273,9 @@ impl Trail {
         self.is_sound();
         let mut candidate: Option<Lit> = None;
         for lit in clause {
-            match self.value(lit.var) {
+            match self.value(lit.var()) {
                 Some(value) => {
-                    if value == lit.positive {
+                    if value == lit.is_positive() {
                         return Stands::Quiet;
                     }
                 }
@@ -302,8 +302,8 @@ impl Trail {
         requires forced { stands self.old.literals (clause_numbered db.now.clauses id) ≡ unit lit }
         ensures { self.new ≡ with_true_literal self.old lit (Some id) }
     {
-        set(&mut self.values, lit.var, Some(lit.positive));
-        set(&mut self.places, lit.var, self.literals.len() as u32);
+        set(&mut self.values, lit.var(), Some(lit.is_positive()));
+        set(&mut self.places, lit.var(), self.literals.len() as u32);
         append(&mut self.literals, lit);
         append(&mut self.reasons, Some(id));
         append(&mut self.levels, self.starts.len() as u32);
@@ -361,7 +361,7 @@ fn forget(values: &mut Vec<Option<bool>>, literals: &[Lit], kept: usize)
     let mut place = literals.len();
     'down: while place > kept {
         place -= 1;
-        set(values, literals[place].var, None);
+        set(values, literals[place].var(), None);
     }
 }
 

@@ -304,8 +304,8 @@ fn ends_at(lists: &[Lists], lit: Lit) -> Ends
     requires { lit.var < length lists.now }
     ensures { result ≡ ends_of lists.now lit }
 {
-    let lists = lists[lit.var as usize];
-    if lit.positive {
+    let lists = lists[lit.var() as usize];
+    if lit.is_positive() {
         lists.positive
     } else {
         lists.negative
@@ -317,10 +317,10 @@ fn set_ends(lists: &mut Vec<Lists>, lit: Lit, ends: Ends)
     requires { lit.var < length lists.old.items }
     ensures { lists.new.items ≡ with_ends lists.old.items lit ends }
 {
-    if lit.positive {
-        lists[lit.var as usize].positive = ends;
+    if lit.is_positive() {
+        lists[lit.var() as usize].positive = ends;
     } else {
-        lists[lit.var as usize].negative = ends;
+        lists[lit.var() as usize].negative = ends;
     }
 }
 

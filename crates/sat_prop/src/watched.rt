@@ -305,8 +305,8 @@ fn make_true(trail: &mut Trail, db: &Clauses, id: ClauseId, lit: Lit) -> bool
     ensures kept { (trail.new ≡ trail.old) ⊎ (trail.new ≡ with_true_literal trail.old lit (Some id)) }
 {
     trail.is_sound();
-    match trail.value(lit.var) {
-        Some(value) => value == lit.positive,
+    match trail.value(lit.var()) {
+        Some(value) => value == lit.is_positive(),
         None => {
             trail.force(db, id, lit);
             true

@@ -13,7 +13,7 @@ pub force-requires-clause-forced : goal.force-requires-clause-forced
 force-requires-clause-forced c =
     let f = found c.args.trail.now c.args.db.now.clauses c.args.id c.is_sound.ensures.state c.requires.grown c.requires.attached in
     let forced = subst (λ (o : Option Clause). IfSome o (λ clause. is_forced_by c.args.trail.now.literals c.args.lit clause ≡ true)) f.held c.requires.forced in
-    ap (stands c.args.trail.now.literals) f.held ∙ forced_unit c.args.trail.now.literals f.known.clause c.args.lit (justified_consistent _ _ _ _ _ c.is_sound.ensures.state.justified) (value_lacks c.args.trail.now.literals c.args.lit (sym c.in-None.ensures)) forced
+    ap (stands c.args.trail.now.literals) f.held ∙ forced_unit c.args.trail.now.literals f.known.clause c.args.lit (justified_consistent _ _ _ _ _ c.is_sound.ensures.state.justified) (value_lacks c.args.trail.now.literals c.args.lit (rw c.var.ensures at (sym c.in-None.ensures))) forced
 
 pub returns-in-Some-clause-conflict : goal.returns-in-Some-clause-conflict
 returns-in-Some-clause-conflict c e =
@@ -21,5 +21,5 @@ returns-in-Some-clause-conflict c e =
     let forced = subst (λ (o : Option Clause). IfSome o (λ clause. is_forced_by c.args.trail.now.literals c.args.lit clause ≡ true)) f.held c.requires.forced in
     record {
       joined = c.requires.attached;
-      false_now = ap (stands c.args.trail.now.literals) f.known.held ∙ forced_false c.args.trail.now.literals f.known.clause c.args.lit (justified_consistent _ _ _ _ _ c.is_sound.ensures.state.justified) forced (value_denies c.args.trail.now.literals c.args.lit c.in-Some.value (sym c.in-Some.ensures) e);
+      false_now = ap (stands c.args.trail.now.literals) f.known.held ∙ forced_false c.args.trail.now.literals f.known.clause c.args.lit (justified_consistent _ _ _ _ _ c.is_sound.ensures.state.justified) forced (value_denies c.args.trail.now.literals c.args.lit c.in-Some.value (rw c.var.ensures at (sym c.in-Some.ensures)) (rw c.is_positive.ensures at e));
     }

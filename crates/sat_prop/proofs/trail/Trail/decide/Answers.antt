@@ -42,8 +42,8 @@ invariant_of-self c =
     let level : vec_len c.push.new.self ≡ level_of c.self.inside.reasons.items + 1 = let e = c.self.invariant.starts.count in grind (arith, common_steps) in
     record {
       state = rw (c.append.ensures.items, c.append-2.ensures.items, n) (state_decided _ c.args.lit c.self.invariant.state r.undecided r.known q);
-      places = rw (n, c.append.ensures.items, c.set-2.ensures, at) (places_more _ _ _ c.args.lit c.self.invariant.places r.undecided r.known);
-      values = rw (n, c.append.ensures.items, c.set.ensures) (values_more _ _ _ c.args.lit c.self.invariant.values r.undecided r.known);
+      places = rw (n, c.append.ensures.items, c.set-2.ensures, c.var-2.ensures, at) (places_more _ _ _ c.args.lit c.self.invariant.places r.undecided r.known);
+      values = rw (n, c.append.ensures.items, c.set.ensures, c.var.ensures, c.is_positive.ensures) (values_more _ _ _ c.args.lit c.self.invariant.values r.undecided r.known);
       levels = rw (c.append-2.ensures.items, c.append-3.ensures.items) (levels_more _ _ None _ c.self.invariant.levels (let e = level_decided c.self.inside.reasons.items in grind (arith, common_steps)));
       starts = rw (c.append-2.ensures.items, begun) (starts_decided _ _ c.self.invariant.starts);
       limit = let a = c.self.invariant.limit in grind (arith, common_steps);

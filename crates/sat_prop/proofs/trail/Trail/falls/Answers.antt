@@ -7,13 +7,13 @@ use Rattle.sat_prop.proofs.Seeing.{value_agrees}
 use Rattle.sat_prop.proofs.trail.Trail.falls.Goals as goal
 
 pub place_of-requires : goal.place_of-requires
-place_of-requires c = has_among c.args.self.now.literals (literal_of c.args.lit.var c.in-Some.value) (value_some c.args.self.now.literals c.args.lit.var c.in-Some.value (sym c.in-Some.ensures))
+place_of-requires c = rw c.var-else-value-is_positive.ensures (has_among c.args.self.now.literals (literal_of c.args.lit.var c.in-Some.value) (value_some c.args.self.now.literals c.args.lit.var c.in-Some.value (rw c.var.ensures at (sym c.in-Some.ensures))))
 
-pub returns-then-value-lit : goal.returns-then-value-lit
-returns-then-value-lit c place h w e = never_false c.args.self.now.literals c.args.lit (justified_once _ _ _ _ _ c.is_sound.ensures.state.justified)
-    (value_agrees c.args.self.now.literals c.args.lit c.in-Some.value (sym c.in-Some.ensures) c.if-value-lit.true) place w e
+pub returns-then-value-is_positive : goal.returns-then-value-is_positive
+returns-then-value-is_positive c place h w e = never_false c.args.self.now.literals c.args.lit (justified_once _ _ _ _ _ c.is_sound.ensures.state.justified)
+    (value_agrees c.args.self.now.literals c.args.lit c.in-Some.value (rw c.var.ensures at (sym c.in-Some.ensures)) (rw c.is_positive.ensures at c.if-value-is_positive.true)) place w e
 
-pub returns-else-value-lit : goal.returns-else-value-lit
-returns-else-value-lit c place h w e =
-    let s = false_there c.args.self.now.literals c.args.lit c.place_of.result place (justified_once _ _ _ _ _ c.is_sound.ensures.state.justified) c.place_of.ensures w e in
+pub returns-else-value-is_positive : goal.returns-else-value-is_positive
+returns-else-value-is_positive c place h w e =
+    let s = false_there c.args.self.now.literals c.args.lit c.place_of.result place (justified_once _ _ _ _ _ c.is_sound.ensures.state.justified) (rw c.var-else-value-is_positive.ensures at c.place_of.ensures) w e in
     absurd (omega arith)

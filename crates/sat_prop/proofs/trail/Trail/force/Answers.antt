@@ -8,10 +8,10 @@ use Rattle.sat_prop.proofs.Leveling.{levels_more, starts_forced, level_forced}
 use Rattle.sat_prop.proofs.trail.Trail.force.Goals as goal
 
 pub set-requires : goal.set-requires
-set-requires c = (may_force c.self.inside c.args.self.now c.self.view_is c.self.invariant c.args.db.now.clauses c.args.lit c.args.id c.requires.grown c.requires.attached c.requires.forced).room.value
+set-requires c = rw c.var.ensures ((may_force c.self.inside c.args.self.now c.self.view_is c.self.invariant c.args.db.now.clauses c.args.lit c.args.id c.requires.grown c.requires.attached c.requires.forced).room.value)
 
 pub set-requires-2 : goal.set-requires-2
-set-requires-2 c = (may_force c.self.inside c.args.self.now c.self.view_is c.self.invariant c.args.db.now.clauses c.args.lit c.args.id c.requires.grown c.requires.attached c.requires.forced).room.known
+set-requires-2 c = rw c.var-2.ensures ((may_force c.self.inside c.args.self.now c.self.view_is c.self.invariant c.args.db.now.clauses c.args.lit c.args.id c.requires.grown c.requires.attached c.requires.forced).room.known)
 
 pub overflow_cast-len : goal.overflow_cast-len
 overflow_cast-len c = omega (arith, c.len.ensures, (may_force c.self.inside c.args.self.now c.self.view_is c.self.invariant c.args.db.now.clauses c.args.lit c.args.id c.requires.grown c.requires.attached c.requires.forced).room.place)
@@ -36,8 +36,8 @@ invariant_of-self c =
     let n : length c.set-2.new.items.items ≡ length c.self.inside.places.items = ap length c.set-2.ensures ∙ (grind (arith, common_steps)) in
     record {
       state = rw (c.append.ensures.items, c.append-2.ensures.items, n) (state_forced _ c.args.lit c.args.id c.self.invariant.state f);
-      places = rw (n, c.append.ensures.items, c.set-2.ensures, at) (places_more _ _ _ c.args.lit c.self.invariant.places f.open_now f.known);
-      values = rw (n, c.append.ensures.items, c.set.ensures) (values_more _ _ _ c.args.lit c.self.invariant.values f.open_now f.known);
+      places = rw (n, c.append.ensures.items, c.set-2.ensures, c.var-2.ensures, at) (places_more _ _ _ c.args.lit c.self.invariant.places f.open_now f.known);
+      values = rw (n, c.append.ensures.items, c.set.ensures, c.var.ensures, c.is_positive.ensures) (values_more _ _ _ c.args.lit c.self.invariant.values f.open_now f.known);
       levels = rw (c.append-2.ensures.items, c.append-3.ensures.items) (levels_more _ _ (Some c.args.id) _ c.self.invariant.levels (let e = level_forced c.self.inside.reasons.items c.args.id in let a = c.self.invariant.starts.count in grind (arith, common_steps)));
       starts = rw c.append-2.ensures.items (starts_forced _ _ c.args.id c.self.invariant.starts);
       limit = let a = c.self.invariant.limit in grind (arith, common_steps);
