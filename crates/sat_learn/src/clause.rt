@@ -38,7 +38,7 @@ pub fn last_level(seen: &[bool], trail: &Trail, count: usize) -> u32
     'down: while place > 0 {
         place -= 1;
         if seen[place] {
-            return trail.level_of(literals[place].var);
+            return trail.level_of(literals[place].var());
         }
     }
     0

@@ -301,7 +301,7 @@ fn close_failed(
 {
     trail.is_sound();
     let literals = trail.literals();
-    let place = trail.place_of(lit.var) as usize;
+    let place = trail.place_of(lit.var()) as usize;
     seen[place] = true;
     let on = Analysed {
         trail,

@@ -70,7 +70,7 @@ impl Removable {
         let literals = trail.literals();
         for place in 0..count.min(literals.len()).min(seen.len()) {
             if seen[place] {
-                self.set(literals[place].var, Mark::Kept)?;
+                self.set(literals[place].var(), Mark::Kept)?;
             }
         }
         for index in 0..self.touched.len() {
@@ -156,7 +156,7 @@ impl Removable {
     // The first literal from a place on that isn't known to follow.
     fn first_open(&self, clause: &[Lit], but: u32, from: usize) -> Option<usize> {
         for place in from..clause.len() {
-            let var = clause[place].var;
+            let var = clause[place].var();
             let known = matches!(self.mark(var), Mark::Kept | Mark::Dropped | Mark::Implied);
             if var != but && !known {
                 return Some(place);
@@ -205,7 +205,7 @@ fn reason_of<'a>(trail: &Trail, db: &'a Clauses, var: u32) -> &'a [Lit] {
 
 fn var_at(clause: &[Lit], place: usize) -> u32 {
     match clause.get(place) {
-        Some(lit) => lit.var,
+        Some(lit) => lit.var(),
         None => u32::MAX,
     }
 }

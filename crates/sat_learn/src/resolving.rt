@@ -25,7 +25,7 @@ pub fn see(seen: &mut [bool], trail: &Trail, clause: &[Lit], start: usize) -> us
     let mut more = 0usize;
     trail.is_sound();
     for lit in clause {
-        let place = trail.place_of(lit.var) as usize;
+        let place = trail.place_of(lit.var()) as usize;
         if !seen[place] {
             seen[place] = true;
             if start <= place {

@@ -31,7 +31,7 @@ pub fn shorten(
     let mut place = on.start;
     'down: while place > 0 {
         place -= 1;
-        let var = literals[place].var;
+        let var = literals[place].var();
         if seen[place] && (on.trail.level_of(var) <= decisions_to || removable.resolves(var)) {
             if let Some(id) = reasons[place] {
                 resolve(seen, on, place, id, hints)?;

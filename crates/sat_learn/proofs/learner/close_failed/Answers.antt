@@ -8,14 +8,14 @@ use Rattle.sat_learn.proofs.Closing.{fail_start, fail_known, fail_from, closing_
 use Rattle.sat_learn.proofs.learner.close_failed.Goals as goal
 
 pub place_of-place-requires : goal.place_of-place-requires
-place_of-place-requires c = let a = place_found c.args.trail.now.literals (negation c.args.lit) c.requires.false_now in has_at c.args.trail.now.literals a.0 c.args.lit.var a.1.within (ap (λ (l : Lit). l.var) a.1.at)
+place_of-place-requires c = rw c.var.ensures (let a = place_found c.args.trail.now.literals (negation c.args.lit) c.requires.false_now in has_at c.args.trail.now.literals a.0 c.args.lit.var a.1.within (ap (λ (l : Lit). l.var) a.1.at))
 
 pub returns-clause-closing : goal.returns-clause-closing
 returns-clause-closing c =
     let p = c.place_of-place.result in
     let b = c.place_of-place.ensures.within in
-    let v = c.place_of-place.ensures.at in
-    let why = c.requires.forced p c.place_of-place.ensures in
+    let v = rw c.var.ensures at c.place_of-place.ensures.at in
+    let why = c.requires.forced p (rw c.var.ensures at c.place_of-place.ensures) in
     let justified = c.is_sound.ensures.state.justified in
     let start = fail_start c.args.trail.now c.args.db.now.clauses c.args.lit p c.args.seen.now c.new-hints.result.items c.requires.grown justified c.requires.false_now b v why c.requires.size c.requires.cleared in
     let h = c.in_ok-resolve_to_decisions.ensures.refuted (c.args.lit ∷ []) start in

@@ -1,5 +1,7 @@
 use Rattle.std.proofs.Common.{◌≡◌, ◌∙◌, ◌<◌, refl, true, false, length, get_or, arith}
 use Rattle.std.proofs.lemmas.Grind.{common_steps}
+use Rattle.std.proofs.lemmas.List.{get_or_default}
+use Rattle.prop_core.specs.Trail.{no_literal}
 use Rattle.sat_learn.proofs.Seeing.{count_on, count_below, each_step}
 use Rattle.sat_prop.proofs.Justifying.{justified_once}
 use Rattle.sat_learn.proofs.resolving.see.Goals as goal
@@ -8,7 +10,8 @@ use Rattle.sat_learn.proofs.resolving.see.Goals.{then-not-seen-place+then-start-
 pub loop-lit-preserved : goal.loop-lit-preserved
 loop-lit-preserved c =
     let h : c.loop-lit.lit-index < length c.args.clause.now = c.loop-lit-test.true in
-    let at = c.place_of-place.ensures.at in
+    let item : c.lit-item.result ≡ get_or c.args.clause.now c.loop-lit.lit-index no_literal = c.lit-item.is ∙ get_or_default c.args.clause.now c.loop-lit.lit-index c.lit-item.result no_literal h in
+    let at = rw (c.var.ensures, item) at c.place_of-place.ensures.at in
     let once = justified_once _ _ _ _ _ c.is_sound.ensures.state.justified in
     let size = c.requires.size in
     let was : length c.loop-lit.seen ≡ length c.args.seen.now = c.loop-lit.invariant.size in
