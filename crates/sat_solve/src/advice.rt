@@ -126,10 +126,10 @@ impl Advice {
     pub fn unassign(&mut self, lit: Lit, ranks: &[u64])
         ensures { self.new ≡ with_unassigned self.old lit }
     {
-        if let Some(phase) = self.phases.get_mut(lit.var as usize) {
-            *phase = lit.positive;
+        if let Some(phase) = self.phases.get_mut(lit.var() as usize) {
+            *phase = lit.is_positive();
         }
-        self.activity.put_back(lit.var, ranks);
+        self.activity.put_back(lit.var(), ranks);
         self.tries.begin_anew();
     }
 
@@ -181,6 +181,6 @@ fn bump_all(activity: &mut Activity, clause: &[Lit], ranks: &[u64])
     ensures { activity.new ≡ with_clause_part activity.old clause.now }
 {
     for lit in clause {
-        activity.bump(lit.var, ranks);
+        activity.bump(lit.var(), ranks);
     }
 }

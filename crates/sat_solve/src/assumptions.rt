@@ -21,8 +21,8 @@ pub fn makes_true(trail: &Trail, lit: Lit) -> bool
     ensures { result ≡ is_true trail.now.literals lit }
 {
     trail.is_sound();
-    match trail.value(lit.var) {
-        Some(value) => value == lit.positive,
+    match trail.value(lit.var()) {
+        Some(value) => value == lit.is_positive(),
         None => false,
     }
 }

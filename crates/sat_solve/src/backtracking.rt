@@ -80,7 +80,7 @@ fn stands_above(trail: &Trail, count: u32, level: u32) -> bool
         return false;
     }
     let lit = trail.literal(count - 1);
-    level < trail.level_of(lit.var)
+    level < trail.level_of(lit.var())
 }
 
 // Lets the variable at a place wait, and keeps how it stood.
@@ -92,7 +92,7 @@ fn unassign<R: Fn(u32) -> u64>(trail: &Trail, order: &mut Order<R>, advice: &mut
     ensures back { waits order.new.waiting (literal_at trail.now.literals place).var ≡ true }
 {
     let lit = trail.literal(place);
-    order.put_back(lit.var);
+    order.put_back(lit.var());
     advice.unassign(lit, order.ranks());
 }
 

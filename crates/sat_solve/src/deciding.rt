@@ -1,10 +1,11 @@
 // What to decide next: a literal that is to be tried first, or else a variable that is suggested, or else the first that waits.
-ghost use Rattle.std.specs.Prelude.{◌≡◌, ◌<◌, true, false, length, IfSome, IfNone};
+ghost use Rattle.std.specs.Prelude.{◌≡◌, ◌<◌, ◌≤◌, true, false, length, IfSome, IfNone};
 ghost use Rattle.prop_core.specs.Clauses.{is_open};
 ghost use Rattle.sat_order.specs.Rank.{KeepsRanks};
 ghost use Rattle.sat_solve.specs.Solving.{AreWaiting, AreClosed, IsPicked};
 
 use crate::advice::Advice;
+use des_base::VAR_LIMIT;
 use prop_core::Lit;
 use sat_order::Order;
 use sat_prop::Trail;
@@ -15,7 +16,8 @@ pub fn pick<R: Fn(u32) -> u64>(
     order: &mut Order<R>,
     advice: &mut Advice,
 ) -> Option<Lit>
-    requires { AreWaiting order.old.waiting trail.now.literals (length order.old.waiting) }
+    requires waiting { AreWaiting order.old.waiting trail.now.literals (length order.old.waiting) }
+    requires few { length order.old.waiting ≤ VAR_LIMIT }
     ensures kept { KeepsRanks order.old order.new }
     ensures some { IfSome result (λ lit. IsPicked trail.now.literals order.old.waiting order.new.waiting lit.var) }
     ensures none { IfNone result (AreClosed trail.now.literals (length order.old.waiting)) }
@@ -24,10 +26,7 @@ pub fn pick<R: Fn(u32) -> u64>(
         return Some(lit);
     }
     let var = pick_var(trail, order, advice)?;
-    Some(Lit {
-        var,
-        positive: advice.phase(var),
-    })
+    Some(Lit::new(var, advice.phase(var)))
 }
 
 // Takes a variable that is open. Those that come before it and are not open wait no longer.

@@ -92,5 +92,5 @@ fn first_open(lits: &[Lit], from: usize, trail: &Trail, vars: u32) -> usize
 fn can_be_decided(lit: Lit, trail: &Trail, vars: u32) -> bool
     ensures { result ≡ can_be_decided trail.now.literals vars lit }
 {
-    lit.var < vars && trail.value(lit.var).is_none()
+    lit.var() < vars && trail.value(lit.var()).is_none()
 }

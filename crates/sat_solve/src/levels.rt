@@ -54,7 +54,7 @@ impl Levels {
         self.counted.clear();
         let mut levels = 0_u64;
         for lit in clause {
-            if let Some(level) = level_of(trail, lit.var) {
+            if let Some(level) = level_of(trail, lit.var()) {
                 if self.counted.mark(level) {
                     levels += 1;
                 }
@@ -83,7 +83,7 @@ pub fn greatest_level(trail: &Trail, literals: &[Lit]) -> u32
 {
     let mut greatest = 0_u32;
     for lit in literals {
-        if let Some(level) = level_of(trail, lit.var) {
+        if let Some(level) = level_of(trail, lit.var()) {
             greatest = greatest.max(level);
         }
     }

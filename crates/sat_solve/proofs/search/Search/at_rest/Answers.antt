@@ -12,6 +12,13 @@ fail_assumption-requires-clause-under_way g c = record { over = c.requires.under
 pub fail_assumption-requires-clause-false_now : goal.fail_assumption-requires-clause-false_now
 fail_assumption-requires-clause-false_now g c = ap (is_true c.args.self.now.propagator.literals) (sym c.negated.ensures) ∙ sym (rw c.trail-trail.ensures at c.makes_true.ensures) ∙ c.if-makes_true.true
 
+pub pick-requires-clause-few : goal.pick-requires-clause-few
+pick-requires-clause-few g c =
+    let s = c.requires.under_way.over.sound in
+    let n = s.variables in
+    let m = s.limit in
+    omega arith
+
 pub decide-requires-clause-known : goal.decide-requires-clause-known
 decide-requires-clause-known g c =
     let w = c.requires.under_way in
