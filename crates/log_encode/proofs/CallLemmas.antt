@@ -1,7 +1,7 @@
 -- What the calls of a log's code need of it and give, over plain values.
 use Rattle.std.proofs.Common.{◌≡◌, ◌⊎◌, inl, inr, ℕ, zero, suc, ◌+◌, ◌*◌, ◌-◌, ◌<◌, ◌≤◌, ◌∙◌, Bool, true, false, List, [], ◌∷◌, ◌++◌, length, map, filter, find, Option, Some, None, refl, sym, ap, subst, arith, slice_get, slice_index_or, option_map, Contains, All, IfSome, ◌==◌, ◌&&◌}
 use Rattle.std.specs.List.{AllByRecursion, range_with_len}
-use Rattle.std.proofs.lemmas.List.Elements.{All-from_recursion}
+use Rattle.std.proofs.lemmas.List.Elements.{All-from_recursion, recursion_from_All}
 use Rattle.des_base.proofs.BoolLemmas.{otherwise, clash}
 use Rattle.des_base.proofs.Elements.{cons_cases, none_in_nil, contains_at, at_place, all_from, filter_has, filter_from, some_at}
 use Rattle.des_base.specs.Lists.{numbers_below}
@@ -16,9 +16,9 @@ use Rattle.replay.specs.Explanation.{is_matching, has_any_label}
 use Rattle.question_clauses.proofs.Lists.{from_numbers, in_numbers}
 use Rattle.question_clauses.proofs.Numbered.{ordered_literal, ordered_names}
 use Rattle.card_counter.specs.CounterState.{positive}
-use Rattle.log_encode.proofs.CodeLemmas.{empty_is_coded, grown_is_coded}
+use Rattle.log_encode.proofs.CodeLemmas.{asked_below, empty_is_coded, grown_is_coded}
 use Rattle.log_encode.proofs.DraftLemmas.{lifted, asked_named, first_written, alarm_brings}
-use Rattle.log_encode.proofs.EndLemmas.{empty_ends, observables_known, ends_events, ends_count}
+use Rattle.log_encode.proofs.EndLemmas.{empty_ends, observables_known, ends_events, ends_count, ends_small}
 use Rattle.log_encode.proofs.GrowLemmas.{taken_width, new_vars, new_alarm, ends_with_alarm, false_with_alarm}
 use Rattle.log_encode.proofs.TakenLemmas.{map_count}
 use Rattle.log_encode.proofs.VariableLemmas.{link_is_small}
@@ -66,6 +66,15 @@ first_events net grid asked chain_ends is = ap (map (λ (end : ChainEnd). end.ev
 
 pub first_known : (net : Net) (grid : Grid) (asked : ℕ) (chain_ends : List ChainEnd) → IsBeginning net grid asked chain_ends → All (λ (end : ChainEnd). end.event < grid.events) chain_ends
 first_known net grid asked chain_ends is = All-from_recursion (λ (end : ChainEnd). end.event < grid.events) chain_ends (all_known net grid chain_ends is.events (first_events net grid asked chain_ends is))
+
+pub first_asked : (net : Net) (grid : Grid) (asked : ℕ) (chain_ends : List ChainEnd) → IsBeginning net grid asked chain_ends → asked < VAR_LIMIT
+first_asked net grid asked chain_ends is = omega (arith, is.few)
+
+pub first_small : (net : Net) (grid : Grid) (asked : ℕ) (chain_ends : List ChainEnd) → IsBeginning net grid asked chain_ends → All (λ (end : ChainEnd). end.closed < VAR_LIMIT) chain_ends
+first_small net grid asked chain_ends is =
+    let names = map_count (λ e. closed e 0) (observable_events net) in
+    All-from_recursion (λ (end : ChainEnd). end.closed < VAR_LIMIT) chain_ends
+    (subst (AllByRecursion (λ (end : ChainEnd). end.closed < VAR_LIMIT)) (sym is.begun) (ends_small (suc asked) VAR_LIMIT (observable_events net) (omega (arith, is.few, names))))
 
 pub first_guards : (net : Net) (grid : Grid) (asked : ℕ) (chain_ends : List ChainEnd) → IsBeginning net grid asked chain_ends → length (guards_of asked chain_ends) ≡ length (first_meanings net)
 first_guards net grid asked chain_ends is =
@@ -199,6 +208,49 @@ rests code labels (end ∷ chain_ends) coded known all = by (has_any_label code.
     by : (b : Bool) → has_any_label code.net labels end.event ≡ b → AllByRecursion (HasRest code.grid) (taken_from code.net labels chain_ends) → AllByRecursion (HasRest code.grid) (taken_from code.net labels (end ∷ chain_ends))
     by true is later = rw is (has_rest code end coded known.0 all.0, later)
     by false is later = rw is later
+
+-- what has a meaning is among the variables
+named_below : (vars var : ℕ) (meaning : Meaning) (meanings : List (ℕ × Meaning)) → AllByRecursion (λ entry. entry.0 < vars) meanings → meaning_of meanings var ≡ Some meaning → var < vars
+named_below vars var meaning [] below h = cc
+named_below vars var meaning (entry ∷ meanings) below h = by (entry.0 == var) refl (named_below vars var meaning meanings below.1)
+  where
+    by : (b : Bool) → (entry.0 == var) ≡ b → (meaning_of meanings var ≡ Some meaning → var < vars) → var < vars
+    by true is later = let same = eqb-true entry.0 var is in omega (arith, same, below.0)
+    by false is later = later (rw is at h)
+
+small_ends : (code : CodedLog) (chain_ends : List ChainEnd) → IsCodedLog code → AllByRecursion (IsChainEnd code) chain_ends → AllByRecursion (λ (end : ChainEnd). end.closed < VAR_LIMIT) chain_ends
+small_ends code [] coded all = tt
+small_ends code (end ∷ chain_ends) coded all =
+    let below = named_below code.vars end.closed _ (log_meanings code) coded.meanings.below all.0.closing in
+    (omega (arith, below, coded.few), small_ends code chain_ends coded all.1)
+
+pub draft_small : (code : CodedLog) (labels : List (List ℕ)) (maybe : Bool) (first : ℕ) (chain_ends : List ChainEnd) (guards : List Lit) → IsDrafting code labels maybe first chain_ends guards → All (λ (end : ChainEnd). end.closed < VAR_LIMIT) chain_ends
+draft_small code labels maybe first chain_ends guards is = All-from_recursion (λ (end : ChainEnd). end.closed < VAR_LIMIT) chain_ends (small_ends code chain_ends is.coded is.chains.each)
+
+pub draft_asked : (code : CodedLog) → IsCodedLog code → code.asked < VAR_LIMIT
+draft_asked code coded = let low = asked_below code coded in omega (arith, low, coded.few)
+
+-- ends that get a link stay small
+after_small : (vars : AlarmVars) (link : ℕ) (chain_ends : List ChainEnd) (takes : List Taken) → AreWithinLimit vars → link + length takes ≤ vars.links → AllByRecursion (λ (end : ChainEnd). end.closed < VAR_LIMIT) chain_ends →
+    AllByRecursion (λ (end : ChainEnd). end.closed < VAR_LIMIT) (ends_after vars link chain_ends takes)
+after_small vars link [] takes within few all = tt
+after_small vars link (end ∷ chain_ends) [] within few all = (all.0, after_small vars link chain_ends [] within few all.1)
+after_small vars link (end ∷ chain_ends) (taken ∷ takes) within few all =
+    by (taken.event == end.event) refl (after_small vars (suc link) chain_ends takes within (omega (arith, few)) all.1) (after_small vars link chain_ends (taken ∷ takes) within few all.1)
+  where
+    here : vars.start + link * (1 + vars.steps * 2) < VAR_LIMIT
+    here = let bound = link_is_small vars.links (1 + vars.steps * 2) link (omega (arith, few)) in omega (arith, bound, within)
+
+    by : (b : Bool) → (taken.event == end.event) ≡ b → AllByRecursion (λ (x : ChainEnd). x.closed < VAR_LIMIT) (ends_after vars (suc link) chain_ends takes) → AllByRecursion (λ (x : ChainEnd). x.closed < VAR_LIMIT) (ends_after vars link chain_ends (taken ∷ takes)) →
+        AllByRecursion (λ (x : ChainEnd). x.closed < VAR_LIMIT) (ends_after vars link (end ∷ chain_ends) (taken ∷ takes))
+    by true is one other = rw is (here, one)
+    by false is one other = rw is (all.0, other)
+
+pub ends_after_small : (vars : AlarmVars) (chain_ends after : List ChainEnd) (takes : List Taken) → AreWithinLimit vars → vars.links ≡ length takes → All (λ (end : ChainEnd). end.closed < VAR_LIMIT) chain_ends → after ≡ ends_after vars 0 chain_ends takes →
+    All (λ (end : ChainEnd). end.closed < VAR_LIMIT) after
+ends_after_small vars chain_ends after takes within links all is =
+    All-from_recursion (λ (end : ChainEnd). end.closed < VAR_LIMIT) after
+    (subst (AllByRecursion (λ (end : ChainEnd). end.closed < VAR_LIMIT)) (sym is) (after_small vars 0 chain_ends takes within (omega (arith, links)) (recursion_from_All (λ (end : ChainEnd). end.closed < VAR_LIMIT) chain_ends all)))
 
 pub draft_rests : (code : CodedLog) (labels : List (List ℕ)) (maybe : Bool) (first : ℕ) (chain_ends : List ChainEnd) (guards : List Lit) → IsDrafting code labels maybe first chain_ends guards → All (HasRest code.grid) (taken_from code.net labels chain_ends)
 draft_rests code labels maybe first chain_ends guards is = All-from_recursion (HasRest code.grid) (taken_from code.net labels chain_ends) (rests code labels chain_ends is.coded (draft_known code labels maybe first chain_ends guards is) is.chains.each)

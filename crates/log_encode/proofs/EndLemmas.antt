@@ -55,6 +55,11 @@ pub ends_count : (var : ℕ) (events : List ℕ) → length (first_ends var even
 ends_count var [] = refl
 ends_count var (e ∷ events) = ap suc (ends_count (suc var) events)
 
+-- their variables are in a row
+pub ends_small : (var limit : ℕ) (events : List ℕ) → var + length events ≤ limit → AllByRecursion (λ (end : ChainEnd). end.closed < limit) (first_ends var events)
+ends_small var limit [] few = tt
+ends_small var limit (e ∷ events) few = (omega (arith, few), ends_small (suc var) limit events (omega (arith, few)))
+
 -- each end is named, after names before
 ends_named : (net : Net) (grid : Grid) (asked : ℕ) (before events : List ℕ) → observable_events net ≡ before ++ events →
     AllByRecursion (IsChainEnd (empty_code net grid asked)) (first_ends (suc asked + length before) events)

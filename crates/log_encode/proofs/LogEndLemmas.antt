@@ -4,7 +4,7 @@ use Rattle.des_base.specs.declared.TheConstants.{VAR_LIMIT}
 use Rattle.des_net.specs.Network.{Net}
 use Rattle.question_clauses.specs.Additions.{alarm_added, with_addition}
 use Rattle.question_clauses.specs.Drafts.{added_list}
-use Rattle.log_encode.proofs.CallLemmas.{IsDrafting, draft_known_events, draft_rests, draft_width, draft_brings, ready_alarm}
+use Rattle.log_encode.proofs.CallLemmas.{IsDrafting, draft_asked, draft_known_events, draft_small, draft_rests, draft_width, draft_brings, ready_alarm}
 use Rattle.log_encode.proofs.GrowLemmas.{new_vars}
 use Rattle.log_encode.specs.AlarmState.{AlarmState}
 use Rattle.log_encode.specs.AlarmVariables.{AreWithinLimit, alarm_width}
@@ -58,6 +58,12 @@ pub rests_there : (code : CodedLog) (end : LogEnd) (labels : List (List ℕ)) (m
 rests_there code end labels maybe first takes can is =
     subst (λ (grid : Grid). All (HasRest grid) takes) (sym can.here.on_grid)
     (subst (All (HasRest code.grid)) (sym (taken_there code end labels takes can.here is)) (draft_rests code labels maybe first end.ends.now (guards_of code.asked end.ends.now) (drafting code end labels maybe first can)))
+
+pub asked_small : (code : CodedLog) (end : LogEnd) (labels : List (List ℕ)) (maybe : Bool) (first : ℕ) → CanDraft code end labels maybe first → end.asked < VAR_LIMIT
+asked_small code end labels maybe first can = let low = draft_asked code can.here.coded in let same = can.here.asking in omega (arith, low, same)
+
+pub ends_small : (code : CodedLog) (end : LogEnd) (labels : List (List ℕ)) (maybe : Bool) (first : ℕ) → CanDraft code end labels maybe first → All (λ (x : ChainEnd). x.closed < VAR_LIMIT) end.ends.now
+ends_small code end labels maybe first can = draft_small code labels maybe first end.ends.now (guards_of code.asked end.ends.now) (drafting code end labels maybe first can)
 
 -- where its variables stand, by how many events it takes
 abbrev pub vars_at : LogEnd → ℕ → ℕ → Bool → AlarmVars

@@ -61,6 +61,15 @@ abbrev pub link_written : LinkVars → List Clause
 link_written v = (negative v.closed ∷ negative v.passed ∷ []) ∷ (negative v.matched ∷ positive v.rest ∷ []) ∷ (negative v.matched ∷ negative v.passed ∷ [])
     ∷ (negative v.passed ∷ positive v.rest ∷ []) ∷ (negative v.rest ∷ positive v.matched ∷ positive v.passed ∷ []) ∷ (negative v.matched ∷ positive v.after ∷ []) ∷ (negative v.matched ∷ negative v.before ∷ []) ∷ []
 
+-- all of these variables are within the limit
+pub record AreLinkVariables (v : LinkVars) : Type 0 where
+  pub closed : v.closed < VAR_LIMIT
+  pub rest : v.rest < VAR_LIMIT
+  pub matched : v.matched < VAR_LIMIT
+  pub passed : v.passed < VAR_LIMIT
+  pub before : v.before < VAR_LIMIT
+  pub after : v.after < VAR_LIMIT
+
 -- the variables of a link in the step after t steps
 abbrev pub link_variables : Grid → AlarmVars → ℕ → Taken → ℕ → LinkVars
 link_variables grid vars link taken t = record {

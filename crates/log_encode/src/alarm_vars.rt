@@ -55,7 +55,8 @@ impl AlarmVars {
     pub fn closed(self, link: u32) -> u32
         requires within { AreWithinLimit self }
         requires link { link < self.links }
-        ensures { result ≡ closed_variable self link }
+        ensures variable { result ≡ closed_variable self link }
+        ensures small { result < VAR_LIMIT }
     {
         self.start + link * (1 + self.steps * 2)
     }
@@ -66,7 +67,8 @@ impl AlarmVars {
         requires within { AreWithinLimit self }
         requires link { link < self.links }
         requires step { step < self.steps }
-        ensures { result ≡ match_variable self link step }
+        ensures variable { result ≡ match_variable self link step }
+        ensures small { result < VAR_LIMIT }
     {
         self.start + (link * (1 + self.steps * 2) + (1 + step * 2))
     }
@@ -77,7 +79,8 @@ impl AlarmVars {
         requires within { AreWithinLimit self }
         requires link { link < self.links }
         requires step { step < self.steps }
-        ensures { result ≡ passed_variable self link step }
+        ensures variable { result ≡ passed_variable self link step }
+        ensures small { result < VAR_LIMIT }
     {
         self.start + (link * (1 + self.steps * 2) + (1 + (step * 2 + 1)))
     }
@@ -97,7 +100,8 @@ impl AlarmVars {
     pub fn done(self, steps: u32) -> u32
         requires within { AreWithinLimit self }
         requires step { steps ≤ self.steps }
-        ensures { result ≡ done_variable self steps }
+        ensures variable { result ≡ done_variable self steps }
+        ensures small { result < VAR_LIMIT }
     {
         self.start + (self.links * (1 + self.steps * 2) + steps)
     }
@@ -119,7 +123,8 @@ impl AlarmVars {
     pub fn dropped(self) -> u32
         requires within { AreWithinLimit self }
         requires doubtful { self.doubtful ≡ true }
-        ensures { result ≡ dropped_variable self }
+        ensures variable { result ≡ dropped_variable self }
+        ensures small { result < VAR_LIMIT }
     {
         self.start
             + (self.links * (1 + self.steps * 2)

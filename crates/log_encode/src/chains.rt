@@ -1,5 +1,5 @@
 // The ends of the chains of the events that can be seen, and the guards.
-ghost use Rattle.std.specs.Prelude.{◌≡◌, ◌≤◌, ◌+◌, ◌<◌, suc, length, is_some, IfOk};
+ghost use Rattle.std.specs.Prelude.{◌≡◌, ◌≤◌, ◌+◌, ◌<◌, suc, length, is_some, All, IfOk};
 ghost use Rattle.des_net.specs.Network.{label_of, observable_events};
 ghost use Rattle.question_clauses.specs.LogNames.{first_meanings};
 ghost use Rattle.log_encode.specs.Written.{first_ends, guards_of};
@@ -41,18 +41,14 @@ pub fn first_ends(alloc: Global, net: &Network, asked: u32) -> Result<Vec<ChainE
 
 // The guards: that the log is asked for, and that each chain ends.
 pub fn guards_of(alloc: Global, asked: u32, ends: &[ChainEnd]) -> Result<Vec<Lit>, Memory>
+    requires asked { asked < VAR_LIMIT }
+    requires closed { All (λ end. end.closed < VAR_LIMIT) ends.now }
     ensures { IfOk result (λ guards. guards.items ≡ guards_of asked ends.now) }
 {
     let mut guards = Vec::new(alloc);
-    guards.push(Lit {
-        var: asked,
-        positive: true,
-    })?;
+    guards.push(Lit::new(asked, true))?;
     for end in ends {
-        guards.push(Lit {
-            var: end.closed,
-            positive: true,
-        })?;
+        guards.push(Lit::new(end.closed, true))?;
     }
     Ok(guards)
 }

@@ -327,10 +327,7 @@ impl LogCode {
         if link as usize >= alarm.takes.len() || step >= self.grid.steps {
             return None;
         }
-        Some(Lit {
-            var: self.vars_of(alarm).passed(link, step),
-            positive: false,
-        })
+        Some(Lit::new(self.vars_of(alarm).passed(link, step), false))
     }
 
     // Whether the alarm is false.

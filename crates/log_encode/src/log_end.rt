@@ -1,5 +1,5 @@
 // The end of a coded log, where an alarm is drafted.
-ghost use Rattle.std.specs.Prelude.{◌≡◌, length, IfOk};
+ghost use Rattle.std.specs.Prelude.{◌≡◌, ◌<◌, length, All, IfOk};
 ghost use Rattle.question_clauses.specs.Additions.{alarm_added};
 ghost use Rattle.log_encode.specs.AlarmVariables.{AreWithinLimit};
 ghost use Rattle.log_encode.specs.CodedLog.{nameless};
@@ -13,7 +13,7 @@ use crate::draft::{Change, Draft};
 use crate::log_code::LogCode;
 use crate::taken::{ChainEnd, Taken, ends_after, taken_by};
 use crate::writing::{dropped_after, write_alarm};
-use des_base::{Memory, Name};
+use des_base::{Memory, Name, VAR_LIMIT};
 use des_net::Network;
 use prop_core::{Clauses, Grid, Lit};
 use std::alloc::Global;
@@ -72,6 +72,8 @@ fn alarm_change(
 ) -> Result<Change, Memory>
     requires within { AreWithinLimit vars }
     requires links { vars.links ≡ length takes.items }
+    requires asked { end.asked < VAR_LIMIT }
+    requires closed { All (λ known. known.closed < VAR_LIMIT) end.ends.now }
     ensures { IfOk result (BringsAlarm end.entry labels.now takes.items vars) }
 {
     let ends = ends_after(end.alloc, end.ends, vars, takes.as_slice())?;

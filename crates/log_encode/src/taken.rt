@@ -33,7 +33,8 @@ impl Taken {
         requires step { step < grid.steps }
         requires few { grid.first + grid.events * grid.steps ≤ VAR_LIMIT }
         requires last { IfSome self.now.last (λ first. first + grid.steps * 2 ≤ VAR_LIMIT) }
-        ensures { result ≡ rest_variable grid self.now.event self.now.last step }
+        ensures variable { result ≡ rest_variable grid self.now.event self.now.last step }
+        ensures small { result < VAR_LIMIT }
     {
         match self.last {
             None => grid.var(self.event.0, step + 1),

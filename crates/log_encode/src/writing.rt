@@ -5,7 +5,7 @@ ghost use Rattle.des_base.specs.declared.TheConstants.{VAR_LIMIT};
 ghost use Rattle.card_counter.specs.AtMostOne.{exclusion_clauses};
 ghost use Rattle.card_counter.specs.CounterState.{positive, negative};
 ghost use Rattle.log_encode.specs.AlarmVariables.{AreWithinLimit, done_variable};
-ghost use Rattle.log_encode.specs.Written.{alarm_written, all_closed_written, closed_written, done_written, dropped_written, link_variables, link_written, links_written, matches_at, pair_written, real_of_link, real_written, reals_written, step_written, steps_of_link, HasRest};
+ghost use Rattle.log_encode.specs.Written.{alarm_written, all_closed_written, closed_written, done_written, dropped_written, link_variables, link_written, links_written, matches_at, pair_written, real_of_link, real_written, reals_written, step_written, steps_of_link, AreLinkVariables, HasRest};
 
 use crate::alarm_vars::AlarmVars;
 use crate::taken::{ChainEnd, Taken};
@@ -27,25 +27,22 @@ pub struct LinkVars {
 }
 
 fn holds(var: u32) -> Lit
+    requires { var < VAR_LIMIT }
     ensures { result ≡ positive var }
 {
-    Lit {
-        var,
-        positive: true,
-    }
+    Lit::new(var, true)
 }
 
 fn fails(var: u32) -> Lit
+    requires { var < VAR_LIMIT }
     ensures { result ≡ negative var }
 {
-    Lit {
-        var,
-        positive: false,
-    }
+    Lit::new(var, false)
 }
 
 // A link in one step.
 fn write_link(link: LinkVars, out: &mut Clauses) -> Result<(), Memory>
+    requires { AreLinkVariables link }
     ensures { OnOk result (out.new.clauses ≡ out.old.clauses ++ link_written link) }
 {
     out.push(&[fails(link.closed), fails(link.passed)])?;
@@ -65,7 +62,8 @@ fn link_vars(grid: Grid, vars: AlarmVars, link: u32, taken: &Taken, step: u32) -
     requires step { step < vars.steps }
     requires few { grid.first + grid.events * grid.steps ≤ VAR_LIMIT }
     requires rest { HasRest grid taken.now }
-    ensures { result ≡ link_variables grid vars link taken.now step }
+    ensures variables { result ≡ link_variables grid vars link taken.now step }
+    ensures small { AreLinkVariables result }
 {
     LinkVars {
         closed: vars.closed(link),
@@ -187,7 +185,8 @@ fn write_first(alloc: Global, vars: AlarmVars, out: &mut Clauses) -> Result<(), 
 // Whether the alarm is done, within all numbers of steps: at first it isn't, unless it is false, and at last it is if the log is
 // asked for.
 fn write_done(alloc: Global, asked: u32, vars: AlarmVars, out: &mut Clauses) -> Result<(), Memory>
-    requires { AreWithinLimit vars }
+    requires within { AreWithinLimit vars }
+    requires asked { asked < VAR_LIMIT }
     ensures { OnOk result (out.new.clauses ≡ out.old.clauses ++ done_written asked vars) }
 {
     write_first(alloc, vars, out)?;
@@ -250,6 +249,7 @@ pub fn write_alarm(
     requires links { vars.links ≡ length takes.now }
     requires few { grid.first + grid.events * grid.steps ≤ VAR_LIMIT }
     requires rest { All (HasRest grid) takes.now }
+    requires asked { asked < VAR_LIMIT }
     ensures { OnOk result (out.new.clauses ≡ out.old.clauses ++ alarm_written grid asked vars takes.now) }
 {
     write_links(grid, vars, takes, out)?;
@@ -280,6 +280,7 @@ pub fn write_pair(
 ) -> Result<(), Memory>
     requires first { first + steps < VAR_LIMIT }
     requires second { second + steps < VAR_LIMIT }
+    requires asked { asked < VAR_LIMIT }
     ensures { OnOk result (out.new.clauses ≡ out.old.clauses ++ pair_written asked first second steps) }
 {
     for step in 0..steps + 1 {
@@ -292,6 +293,7 @@ pub fn write_pair(
 #[tactic(auto, using(crate::proofs::LoopLemmas::map_more_on))]
 fn write_closed(grid: Grid, end: &ChainEnd, out: &mut Clauses) -> Result<(), Memory>
     requires event { end.now.event < grid.events }
+    requires closed { end.now.closed < VAR_LIMIT }
     requires few { grid.first + grid.events * grid.steps ≤ VAR_LIMIT }
     ensures { OnOk result (out.new.clauses ≡ out.old.clauses ++ closed_written grid end.now) }
 {
@@ -304,6 +306,7 @@ fn write_closed(grid: Grid, end: &ChainEnd, out: &mut Clauses) -> Result<(), Mem
 // The same for all chains.
 pub fn write_all_closed(grid: Grid, ends: &[ChainEnd], out: &mut Clauses) -> Result<(), Memory>
     requires known { All (λ end. end.event < grid.events) ends.now }
+    requires closed { All (λ end. end.closed < VAR_LIMIT) ends.now }
     requires few { grid.first + grid.events * grid.steps ≤ VAR_LIMIT }
     ensures { OnOk result (out.new.clauses ≡ out.old.clauses ++ all_closed_written grid ends.now) }
 {

@@ -1,5 +1,5 @@
 use Rattle.std.proofs.Common.{refl, sym, ap, subst, arith, All}
-use Rattle.log_encode.proofs.LogEndLemmas.{events_known, rests_there, vars_within, new_alarm, ready_draft}
+use Rattle.log_encode.proofs.LogEndLemmas.{asked_small, ends_small, events_known, rests_there, vars_within, new_alarm, ready_draft}
 use Rattle.log_encode.proofs.log_end.draft_at.Goals as goal
 use Rattle.log_encode.specs.Drafted.{LogCodeState}
 use Rattle.log_encode.specs.Written.{HasRest}
@@ -10,6 +10,15 @@ taken_by-requires c = record { known = events_known c.args.code.now.coded c.args
 
 pub new-vars-requires : goal.new-vars-requires
 new-vars-requires c = vars_within c.args.code.now.coded c.args.end c.args.labels.now c.args.maybe c.args.first_var c.len.result c.in_ok-takes.takes.items c.requires c.in_ok-takes.ensures (omega (arith, c.in_ok-takes.takes.ok, c.len.ensures))
+
+pub write_alarm-requires-clause-asked : goal.write_alarm-requires-clause-asked
+write_alarm-requires-clause-asked c = asked_small c.args.code.now.coded c.args.end c.args.labels.now c.args.maybe c.args.first_var c.requires
+
+pub alarm_change-requires-clause-asked : goal.alarm_change-requires-clause-asked
+alarm_change-requires-clause-asked c = asked_small c.args.code.now.coded c.args.end c.args.labels.now c.args.maybe c.args.first_var c.requires
+
+pub alarm_change-requires-clause-closed : goal.alarm_change-requires-clause-closed
+alarm_change-requires-clause-closed c = ends_small c.args.code.now.coded c.args.end c.args.labels.now c.args.maybe c.args.first_var c.requires
 
 pub write_alarm-requires-clause-rest : goal.write_alarm-requires-clause-rest
 write_alarm-requires-clause-rest c =

@@ -9,5 +9,5 @@ pub loop-link-preserved : goal.loop-link-preserved
 loop-link-preserved c =
     let literal = λ (link : ℕ). positive (match_variable c.args.vars link c.args.step) in
     c.in_ok-push.ensures.items ∙ ap (λ lits. lits ++ c.holds.result ∷ []) c.loop-link.invariant
-    ∙ ap (λ lit. map literal (numbers_below c.loop-link.link) ++ lit ∷ []) (c.holds.ensures ∙ ap positive c.matched.ensures)
+    ∙ ap (λ lit. map literal (numbers_below c.loop-link.link) ++ lit ∷ []) (c.holds.ensures ∙ ap positive c.matched.ensures.variable)
     ∙ sym (map_numbers_more literal c.loop-link.link)

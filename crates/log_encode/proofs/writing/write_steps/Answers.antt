@@ -10,5 +10,5 @@ loop-step-preserved c =
     let old = c.args.out.now.clauses in
     let so_far = steps_of_link grid vars c.args.link c.args.taken.now c.loop-step.step in
     c.in_ok-write_link.ensures ∙ ap (λ xs. xs ++ link_written c.link_vars.result) c.loop-step.invariant
-    ∙ ap (λ v. (old ++ so_far) ++ link_written v) c.link_vars.ensures
+    ∙ ap (λ v. (old ++ so_far) ++ link_written v) c.link_vars.ensures.variables
     ∙ flat_more_on (λ t. link_written (link_variables grid vars c.args.link c.args.taken.now t)) c.loop-step.step old

@@ -19,7 +19,7 @@ done-requires-clause-within c =
 pub returns-clause-within : goal.returns-clause-within
 returns-clause-within c =
     let found = found_alarm c.self.inside c.args.self.now c.args.alarm c.index.result.now c.self.view_is c.self.invariant c.requires c.index.ensures in
-    let is = c.done.ensures ∙ ap (λ (v : AlarmVars). done_variable v 0) c.vars_of.ensures in
+    let is = c.done.ensures.variable ∙ ap (λ (v : AlarmVars). done_variable v 0) c.vars_of.ensures in
     let bound = found.0.within in
     omega (arith, is, bound)
 
@@ -29,5 +29,5 @@ returns-clause-few c = (kept_count c.self.inside c.args.self.now c.self.view_is 
 pub returns-clause-names : goal.returns-clause-names
 returns-clause-names c =
     let found = found_alarm c.self.inside c.args.self.now c.args.alarm c.index.result.now c.self.view_is c.self.invariant c.requires c.index.ensures in
-    let is = c.done.ensures ∙ ap (λ (v : AlarmVars). done_variable v 0) c.vars_of.ensures in
+    let is = c.done.ensures.variable ∙ ap (λ (v : AlarmVars). done_variable v 0) c.vars_of.ensures in
     λ t within. subst (λ v. meaning_of (log_meanings c.args.self.now.coded) v ≡ Some (done c.args.alarm t)) (omega (arith, is)) (found.0.being_done t within)

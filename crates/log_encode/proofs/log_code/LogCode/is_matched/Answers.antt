@@ -15,6 +15,6 @@ pub value-requires : goal.value-requires
 value-requires c =
     let below = link_below 0 c.args.alarm.now.takes c.args.event c.in-Some.link (sym c.link_of.ensures ∙ c.in-Some.is) in
     let vars = variables_of c.args.self.now.coded.grid.steps c.args.alarm.now in
-    let is = c.matched.ensures ∙ ap (λ (v : AlarmVars). match_variable v c.in-Some.link c.args.step) c.vars_of.ensures in
+    let is = c.matched.ensures.variable ∙ ap (λ (v : AlarmVars). match_variable v c.in-Some.link c.args.step) c.vars_of.ensures in
     let bound = match_below vars c.in-Some.link c.args.step (omega (arith, below)) c.requires.step in
     omega (arith, is, bound, c.requires.values)

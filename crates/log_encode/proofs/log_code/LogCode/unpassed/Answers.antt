@@ -5,7 +5,7 @@ use Rattle.log_encode.proofs.log_code.LogCode.unpassed.Goals as goal
 use Rattle.log_encode.specs.AlarmState.{AlarmState}
 use Rattle.log_encode.specs.AlarmVariables.{AreWithinLimit, passed_variable}
 use Rattle.log_encode.specs.declared.alarm_vars.AlarmVars.{AlarmVars}
-use Rattle.log_encode.specs.Drafted.{LogCodeState}
+use Rattle.log_encode.specs.Drafted.{LogCodeState, IsUnpassed}
 
 pub vars_of-requires : goal.vars_of-requires
 vars_of-requires c =
@@ -38,5 +38,6 @@ pub returns-clause-says : goal.returns-clause-says
 returns-clause-says c =
     let found = found_alarm c.self.inside c.args.self.now c.args.alarm c.index-alarm.result.now c.self.view_is c.self.invariant c.requires c.index-alarm.ensures in
     let kept = ap (λ (a : AlarmState). length a.takes) c.alarm.view_is in
-    unpassed_is c.args.self.now.coded c.args.alarm c.index-alarm.result.now c.args.link c.args.step c.passed.result found.0 (omega (arith, c.len.ensures, c.if-link-len.false, c.alarm.inside.takes.ok.0, kept)) (subst (λ (s : LogCodeState). c.args.step < s.coded.grid.steps) c.self.view_is (omega (arith, c.if-step-self.false)))
-    (c.passed.ensures ∙ ap (λ (v : AlarmVars). passed_variable v c.args.link c.args.step) c.vars_of.ensures)
+    subst (IsUnpassed c.args.self.now.coded c.args.alarm c.args.link c.args.step) (sym c.new.ensures)
+    (unpassed_is c.args.self.now.coded c.args.alarm c.index-alarm.result.now c.args.link c.args.step c.passed.result found.0 (omega (arith, c.len.ensures, c.if-link-len.false, c.alarm.inside.takes.ok.0, kept)) (subst (λ (s : LogCodeState). c.args.step < s.coded.grid.steps) c.self.view_is (omega (arith, c.if-step-self.false)))
+    (c.passed.ensures.variable ∙ ap (λ (v : AlarmVars). passed_variable v c.args.link c.args.step) c.vars_of.ensures))
