@@ -35,7 +35,7 @@ fn are_lits(lits: &[Lit], rows: &[(u32, bool)]) -> bool {
         return false;
     }
     for place in 0..rows.len() {
-        if lits[place].var != rows[place].0 || lits[place].positive != rows[place].1 {
+        if lits[place].var() != rows[place].0 || lits[place].is_positive() != rows[place].1 {
             return false;
         }
     }

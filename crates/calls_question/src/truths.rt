@@ -2,7 +2,7 @@
 use prop_core::{ClauseId, Clauses, Lit};
 
 fn is_true(bits: u32, lit: Lit) -> bool {
-    lit.var < 32 && ((bits >> lit.var) & 1 == 1) == lit.positive
+    lit.var() < 32 && ((bits >> lit.var()) & 1 == 1) == lit.is_positive()
 }
 
 pub fn all_true(bits: u32, lits: &[Lit]) -> bool {

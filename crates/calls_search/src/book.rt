@@ -5,14 +5,13 @@ use prop_core::{ClauseId, Clauses, Lit};
 
 const BOTH: [ClauseId; 2] = [ClauseId(1), ClauseId(2)];
 
-const DERIVED: [Lit; 1] = [YES_1];
-
 // Whether it derives the clause by both axioms, and not by the first alone.
 fn derives(book: &mut Ledger) -> bool {
-    book.add_axiom(&[YES_0, YES_1]).is_ok()
-        && book.add_axiom(&[NO_0, YES_1]).is_ok()
-        && book.try_derive(&DERIVED, &BOTH).is_ok()
-        && book.try_derive(&DERIVED, &BOTH[..1]).is_err()
+    let yes_1 = Lit::numbered(YES_1);
+    book.add_axiom(&[Lit::numbered(YES_0), yes_1]).is_ok()
+        && book.add_axiom(&[Lit::numbered(NO_0), yes_1]).is_ok()
+        && book.try_derive(&[yes_1], &BOTH).is_ok()
+        && book.try_derive(&[yes_1], &BOTH[..1]).is_err()
 }
 
 #[test]

@@ -21,8 +21,6 @@ fn draw(state: &mut u64, vars: u32) -> Lit {
         .wrapping_mul(6_364_136_223_846_793_005)
         .wrapping_add(1_442_695_040_888_963_407);
     let bits = *state / 8_589_934_592;
-    Lit {
-        var: (bits / 2 % vars.max(1) as u64) as u32,
-        positive: bits % 2 == 1,
-    }
+    let var = bits / 2 % vars.max(1) as u64;
+    Lit::numbered((2 * var + bits % 2) as u32)
 }

@@ -1,38 +1,29 @@
-// Literals by their variables, and lists of them.
+// Literals by their numbers, and lists of them.
 ghost use Rattle.std.specs.Prelude.{◌≡◌, true};
 ghost use Rattle.prop_core.specs.Clauses.{HasValues};
 
 use prop_core::{Clauses, Lit};
 
-pub const YES_0: Lit = Lit {
-    var: 0,
-    positive: true,
-};
+// The variables and their negations, by their numbers: twice the variable, and one more where it is the variable itself.
+pub const NO_0: u32 = 0;
 
-pub const NO_0: Lit = Lit {
-    var: 0,
-    positive: false,
-};
+pub const YES_0: u32 = 1;
 
-pub const YES_1: Lit = Lit {
-    var: 1,
-    positive: true,
-};
+pub const NO_1: u32 = 2;
 
-pub const NO_1: Lit = Lit {
-    var: 1,
-    positive: false,
-};
+pub const YES_1: u32 = 3;
 
-pub const YES_2: Lit = Lit {
-    var: 2,
-    positive: true,
-};
+pub const YES_2: u32 = 5;
 
-// Appends clauses, and says whether it could.
-pub fn push_all(clauses: &mut Clauses, more: &[&[Lit]]) -> bool {
-    for clause in more {
-        if clauses.push(clause).is_err() {
+// Appends clauses of three literals at most, and says whether it could.
+pub fn push_all(clauses: &mut Clauses, more: &[&[u32]]) -> bool {
+    for numbers in more {
+        let mut literals = [Lit::numbered(0); 3];
+        let count = numbers.len().min(3);
+        for place in 0..count {
+            literals[place] = Lit::numbered(numbers[place]);
+        }
+        if clauses.push(&literals[..count]).is_err() {
             return false;
         }
     }
@@ -43,5 +34,5 @@ pub fn push_all(clauses: &mut Clauses, more: &[&[Lit]]) -> bool {
 pub fn are_below(literals: &[Lit], vars: u32) -> bool
     ensures { result ≡ true → HasValues vars literals.now }
 {
-    literals.iter().all(|lit| lit.var < vars)
+    literals.iter().all(|lit| lit.var() < vars)
 }

@@ -4,12 +4,12 @@ ghost use Rattle.std.specs.Prelude.{◌<◌, ◌^◌, length};
 use crate::literals::{NO_0, YES_0, push_all};
 use proof_ledger::{Checked, ProofStep, check};
 use proof_text::read_lrat;
-use prop_core::{ClauseId, Clauses, Lit};
+use prop_core::{ClauseId, Clauses};
 use std::alloc::Global;
 
 const BOTH: [ClauseId; 2] = [ClauseId(1), ClauseId(2)];
 
-static OPPOSED: [&[Lit]; 2] = [&[YES_0], &[NO_0]];
+static OPPOSED: [&[u32]; 2] = [&[YES_0], &[NO_0]];
 
 // Whether the step is the empty clause, from both axioms.
 fn is_empty_clause(step: &ProofStep) -> bool {

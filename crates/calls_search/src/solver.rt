@@ -23,15 +23,9 @@ const AMPLE: u64 = 100_000;
 
 // The first eight variables, with the signs that the bits of a number give.
 fn signed(signs: u64) -> [Lit; 8] {
-    let mut literals = [Lit {
-        var: 0,
-        positive: false,
-    }; 8];
+    let mut literals = [Lit::numbered(0); 8];
     for var in 0..8 {
-        literals[var] = Lit {
-            var: var as u32,
-            positive: signs >> var & 1 == 1,
-        };
+        literals[var] = Lit::new(var as u32, signs >> var & 1 == 1);
     }
     literals
 }
@@ -327,7 +321,7 @@ fn formulas_of_three_literals_a_clause(rt: HostRuntime) {
 }
 
 // Clauses of two variables, and the questions.
-type WorkedRow = (&'static [&'static [Lit]], &'static [SolverQuestion]);
+type WorkedRow = (&'static [&'static [u32]], &'static [SolverQuestion]);
 
 static WORKED: [WorkedRow; 3] = [
     (&[], &[(0, 0, 0, Some(true))]),

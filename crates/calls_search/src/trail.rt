@@ -33,7 +33,7 @@ fn decide(propagator: &mut Propagator, db: &Clauses, lit: Lit)
     ensures vars { propagator.new.vars ≡ propagator.old.vars }
 {
     if let Propagated::Quiet = propagator.propagate(db) {
-        if propagator.trail().value(lit.var).is_none() {
+        if propagator.trail().value(lit.var()).is_none() {
             propagator.decide(lit);
         }
     }
@@ -44,13 +44,13 @@ fn forces(propagator: &mut Propagator, db: &Clauses) -> bool
     requires front { IsFront propagator.old.clauses db.now.clauses }
     requires vars { propagator.old.vars ≡ 3 }
 {
-    decide(propagator, db, NO_1);
-    decide(propagator, db, NO_0);
+    decide(propagator, db, Lit::numbered(NO_1));
+    decide(propagator, db, Lit::numbered(NO_0));
     matches!(propagator.propagate(db), Propagated::Quiet)
         && propagator.trail().reason(2) == Some(ClauseId(2))
 }
 
-static WIDER_AND_PART: [&[Lit]; 2] = [&[YES_0, YES_1, YES_2], &[YES_2, YES_0]];
+static WIDER_AND_PART: [&[u32]; 2] = [&[YES_0, YES_1, YES_2], &[YES_2, YES_0]];
 
 // Both clauses force the last literal, and the first of them came to be watched there before the other: but it isn't watched any more.
 fn subsumes(propagator: &mut Propagator, db: &mut Clauses) -> bool
