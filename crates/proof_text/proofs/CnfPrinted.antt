@@ -2,7 +2,7 @@
 use Rattle.std.proofs.Common.{◌≡◌, ◌<◌, ◌≤◌, ◌+◌, ◌-◌, ◌^◌, ℕ, suc, Bool, true, false, List, [], ◌∷◌, ◌++◌, length, map, None, Some, cond, refl, arith, ap, sym, ◌∙◌, append_assoc, append-nil}
 use Rattle.std.proofs.lemmas.Bool.Decides.{nat_tests}
 use Rattle.std.proofs.lemmas.List.Elements.{All-head, All-tail}
-use Rattle.std.specs.Prelude.{◌&&◌, ◌==◌, not, nat_lt, All, flat_map, codes}
+use Rattle.std.specs.Prelude.{not, nat_lt, All, flat_map, codes}
 use Rattle.std.specs.Fmt.{decimal}
 use Rattle.std.specs.List.{list_all}
 use Rattle.des_base.proofs.PrintedLines.{line_byte, IsWord, tokens_of-word, tokens_of-last, word_in_line, word_before, counted_from-line}
@@ -10,10 +10,11 @@ use Rattle.des_base.specs.CountedLines.{NumberedLine, numbered, counted_from, co
 use Rattle.prop_core.specs.declared.lit.Lit.{Lit}
 use Rattle.prop_core.specs.Clauses.{Clause, HasValues}
 use Rattle.proof_text.specs.ClauseReading.{spelled_clauses}
-use Rattle.proof_text.specs.SignedNumbers.{is_number, is_zero, size_of, literal_of}
-use Rattle.proof_text.specs.TextFaults.{text_fault_or, not_a_number, unknown_variable, other_count}
-use Rattle.proof_text.specs.CnfText.{most, stated, header_of, LinedToken, lined, tokens_in, left_after, fault_of_tokens, cnf_fault_of_lines, fault_of_body, Formula, formula, formula_of_body, formula_of_lines}
+use Rattle.proof_text.specs.SignedNumbers.{is_zero, size_of, literal_of}
+use Rattle.proof_text.specs.TextFaults.{text_fault_or}
+use Rattle.proof_text.specs.CnfText.{most, stated, header_of, LinedToken, lined, tokens_in, fault_of_tokens, cnf_fault_of_lines, fault_of_body, Formula, formula, formula_of_body, formula_of_lines}
 use Rattle.proof_text.specs.PrintedText.{literal_word, literals_text, clause_text, header_text, formula_text, IsFormulaText}
+use Rattle.proof_text.proofs.ClauseLemmas.{fault_of_tokens-well}
 use Rattle.proof_text.proofs.CnfLemmas.{within_limits}
 use Rattle.proof_text.proofs.PieceLemmas.{spelled_clauses-pieces}
 use Rattle.proof_text.proofs.WordLemmas.{AreNumerals, numeral_word, numeral_words, spaced, line_of, tokens_of-line, line_of-bytes, line_of-counts}
@@ -48,18 +49,6 @@ known_numerals vars (l ∷ ls) few h =
     (literal_word_numeral l (small_var vars l.var few (All-head (λ (m : Lit). m.var < vars) l ls h)), known_numerals vars ls few (All-tail (λ (m : Lit). m.var < vars) l ls h))
 
 -- ---- the tokens of a clause
-
-passes : (a b c : Bool) (x y z : ℕ) → a ≡ true → b ≡ false → c ≡ false → cond (not a) (Some x) (cond b (Some y) (cond c (Some z) None)) ≡ None
-passes true false false x y z h k m = refl
-passes true false true x y z h k m = cc
-passes true true c x y z h k m = cc
-passes false b c x y z h k m = cc
-
-fault_of_tokens-well : (vars end left : ℕ) (is_open : Bool) (line : ℕ) (word : List ℕ) (later : List LinedToken) → is_number word ≡ true → nat_lt vars (size_of word) ≡ false → (not is_open && left == 0) ≡ false
-    → fault_of_tokens vars end left is_open (lined line word ∷ later) ≡ fault_of_tokens vars end (left_after left is_open) (not (is_zero word)) later
-fault_of_tokens-well vars end left is_open line word later number known begins =
-    ap (λ code. text_fault_or line code (fault_of_tokens vars end (left_after left is_open) (not (is_zero word)) later))
-    (passes (is_number word) (nat_lt vars (size_of word)) (not is_open && left == 0) not_a_number unknown_variable other_count number known begins)
 
 none_below_zero : (vars : ℕ) → nat_lt vars 0 ≡ false
 none_below_zero vars = grind (arith, nat_tests)

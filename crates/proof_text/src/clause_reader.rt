@@ -48,7 +48,7 @@ impl ClauseReader {
         let Some(item) = read_item(token.text, self.vars) else {
             return Err(fault_at(token.line, entry_code(token.text)));
         };
-        if self.front.is_empty() {
+        if !self.is_open() {
             if self.left == 0 {
                 return Err(fault_at(token.line, OTHER_COUNT));
             }
@@ -56,6 +56,13 @@ impl ClauseReader {
         }
         self.put(item)?;
         Ok(())
+    }
+
+    // Whether some literals of a clause stand before its end.
+    fn is_open(&self) -> bool
+        ensures { result ≡ some_open self.now.front.items }
+    {
+        !self.front.is_empty()
     }
 
     // A literal goes on with the open clause, and an end ends it.
@@ -79,7 +86,7 @@ impl ClauseReader {
     pub fn end_code(&self) -> Option<u8>
         ensures { result ≡ end_code self.now.left (some_open self.now.front.items) }
     {
-        if !self.front.is_empty() {
+        if self.is_open() {
             return Some(NOT_ENDED);
         }
         (self.left > 0).then_some(OTHER_COUNT)

@@ -117,10 +117,12 @@ fn read_literals(tokens: &mut Tokens<'_>, vars: u32, clause: &mut Vec<Lit>) -> R
 {
     clause.clear();
     while let Some(token) = tokens.next_token() {
-        match read_item(token.text, vars) {
-            None => return Ok(false),
-            Some(ClauseItem::End) => return Ok(true),
-            Some(ClauseItem::Literal(lit)) => clause.push(lit)?,
+        let Some(item) = read_item(token.text, vars) else {
+            return Ok(false);
+        };
+        match item {
+            ClauseItem::End => return Ok(true),
+            ClauseItem::Literal(lit) => clause.push(lit)?,
         }
     }
     Ok(false)

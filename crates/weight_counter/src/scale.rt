@@ -86,11 +86,11 @@ impl Scale {
     }
 
     // Adds the clauses of one input.
-    fn push_input(&self, place: u32, x: Weighted, out: &mut Clauses)
+    fn push_input(&self, place: u32, x: &Weighted, out: &mut Clauses)
         requires place { place < self.now.inputs }
         requires within { IsWithinVars self.now }
         requires room { HasRoom out.old (2 * self.now.amounts) (5 * self.now.amounts) }
-        ensures { AddsWithin out.old (weight_clauses (place_variable self.now) self.now.amounts place x) (2 * self.now.amounts) (5 * self.now.amounts) out.new }
+        ensures { AddsWithin out.old (weight_clauses (place_variable self.now) self.now.amounts place x.now) (2 * self.now.amounts) (5 * self.now.amounts) out.new }
     {
         self.push_kept(place, out);
         self.push_alone(place, x, out);
@@ -135,11 +135,11 @@ impl Scale {
     }
 
     // Adds that a true input reaches each amount up to its weight, whatever is before it.
-    fn push_alone(&self, place: u32, x: Weighted, out: &mut Clauses)
+    fn push_alone(&self, place: u32, x: &Weighted, out: &mut Clauses)
         requires place { place < self.now.inputs }
         requires within { IsWithinVars self.now }
-        requires room { HasRoom out.old (min x.weight self.now.amounts) (2 * min x.weight self.now.amounts) }
-        ensures { AddsWithin out.old (alone_at (place_variable self.now) self.now.amounts place x) (min x.weight self.now.amounts) (2 * min x.weight self.now.amounts) out.new }
+        requires room { HasRoom out.old (min x.now.weight self.now.amounts) (2 * min x.now.weight self.now.amounts) }
+        ensures { AddsWithin out.old (alone_at (place_variable self.now) self.now.amounts place x.now) (min x.now.weight self.now.amounts) (2 * min x.now.weight self.now.amounts) out.new }
     {
         for amount in 0..x.weight.min(self.amounts) {
             self.add_alone(place, amount, x.input, out);
@@ -159,11 +159,11 @@ impl Scale {
     }
 
     // Adds that a true input reaches its weight more than those before it.
-    fn push_raised(&self, place: u32, x: Weighted, out: &mut Clauses)
+    fn push_raised(&self, place: u32, x: &Weighted, out: &mut Clauses)
         requires place { place < self.now.inputs }
         requires within { IsWithinVars self.now }
-        requires room { HasRoom out.old (self.now.amounts - x.weight) (3 * (self.now.amounts - x.weight)) }
-        ensures { AddsWithin out.old (raised_at (place_variable self.now) self.now.amounts place x) (self.now.amounts - x.weight) (3 * (self.now.amounts - x.weight)) out.new }
+        requires room { HasRoom out.old (self.now.amounts - x.now.weight) (3 * (self.now.amounts - x.now.weight)) }
+        ensures { AddsWithin out.old (raised_at (place_variable self.now) self.now.amounts place x.now) (self.now.amounts - x.now.weight) (3 * (self.now.amounts - x.now.weight)) out.new }
     {
         if place > 0 {
             self.raise_each(place - 1, x, out);
@@ -171,11 +171,11 @@ impl Scale {
     }
 
     // Adds what a true input raises each amount to.
-    fn raise_each(&self, before: u32, x: Weighted, out: &mut Clauses)
+    fn raise_each(&self, before: u32, x: &Weighted, out: &mut Clauses)
         requires place { before + 1 < self.now.inputs }
         requires within { IsWithinVars self.now }
-        requires room { HasRoom out.old (self.now.amounts - x.weight) (3 * (self.now.amounts - x.weight)) }
-        ensures { AddsWithin out.old (map (raised_clause (place_variable self.now) before x) (numbers_below (self.now.amounts - x.weight))) (self.now.amounts - x.weight) (3 * (self.now.amounts - x.weight)) out.new }
+        requires room { HasRoom out.old (self.now.amounts - x.now.weight) (3 * (self.now.amounts - x.now.weight)) }
+        ensures { AddsWithin out.old (map (raised_clause (place_variable self.now) before x.now) (numbers_below (self.now.amounts - x.now.weight))) (self.now.amounts - x.now.weight) (3 * (self.now.amounts - x.now.weight)) out.new }
     {
         for amount in 0..self.amounts.saturating_sub(x.weight) {
             self.raise(before, amount, x, out);
@@ -183,12 +183,12 @@ impl Scale {
     }
 
     // Adds what a true input raises one amount to.
-    fn raise(&self, before: u32, amount: u32, x: Weighted, out: &mut Clauses)
+    fn raise(&self, before: u32, amount: u32, x: &Weighted, out: &mut Clauses)
         requires place { before + 1 < self.now.inputs }
-        requires amount { amount + x.weight < self.now.amounts }
+        requires amount { amount + x.now.weight < self.now.amounts }
         requires within { IsWithinVars self.now }
         requires room { HasRoom out.old 1 3 }
-        ensures { AddsWithin out.old (raised_clause (place_variable self.now) before x amount ∷ []) 1 3 out.new }
+        ensures { AddsWithin out.old (raised_clause (place_variable self.now) before x.now amount ∷ []) 1 3 out.new }
     {
         let reached = self.var(before, amount);
         let raised = self.var(before + 1, amount + x.weight);
@@ -212,9 +212,9 @@ fn count_of(inputs: &[Weighted], amounts: u32) -> u32
 }
 
 // The input of this place.
-fn input_at(inputs: &[Weighted], place: u32) -> Weighted
+fn input_at(inputs: &[Weighted], place: u32) -> &Weighted
     requires { place < length inputs.now }
-    ensures { slice_get inputs.now place ≡ Some result }
+    ensures { slice_get inputs.now place ≡ Some result.now }
 {
-    inputs[place as usize]
+    &inputs[place as usize]
 }

@@ -1,3 +1,6 @@
+use Rattle.std.proofs.Common.{◌≡◌, ◌∙◌, get_or}
+use Rattle.std.proofs.lemmas.List.{get_or_default}
+use Rattle.prop_core.specs.Trail.{no_literal}
 use Rattle.des_base.specs.declared.TheConstants.{VAR_LIMIT}
 use Rattle.card_counter.proofs.Adding.{next_added, one_reserved, one_within, one_room}
 use Rattle.card_counter.proofs.Exact.{counter_is_exact}
@@ -13,7 +16,9 @@ pub add_input-requires-clause-room : goal.add_input-requires-clause-room
 add_input-requires-clause-room c = one_room _ _ _ _ _ _ _ _ c.loop-input.invariant c.loop-input-test.true
 
 pub loop-input-preserved : goal.loop-input-preserved
-loop-input-preserved c = next_added _ _ _ _ _ _ _ _ c.loop-input.invariant c.loop-input-test.true _ _ _ _ c.add_input.ensures.input c.add_input.ensures.counter
+loop-input-preserved c =
+    let item : c.input-item.result ≡ get_or c.args.inputs.now c.loop-input.input-index no_literal = c.input-item.is ∙ get_or_default c.args.inputs.now c.loop-input.input-index c.input-item.result no_literal c.loop-input-test.true in
+    next_added _ _ _ _ _ _ _ _ c.loop-input.invariant c.loop-input-test.true _ _ _ _ (rw item at c.add_input.ensures.input) c.add_input.ensures.counter
 
 pub returns-clause-exact : goal.returns-clause-exact
 returns-clause-exact c = counter_is_exact _ c.loop-input.invariant.counter
