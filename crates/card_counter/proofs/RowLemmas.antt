@@ -5,7 +5,7 @@ use Rattle.std.proofs.Math.ListN.{get_or-append}
 use Rattle.std.proofs.lemmas.List.{drop_all, drop-append-le, get_or-append_right, get_or-map, get_or-drop, length-drop, map-append}
 use Rattle.std.proofs.lemmas.List.FromFn.{get_or-range_with_len, length-range_with_len}
 use Rattle.des_base.proofs.Elements.{all_change, all_push}
-use Rattle.des_base.specs.declared.TheConstants.{VAR_LIMIT}
+use Rattle.des_base.specs.declared.TheConstants.{MOST_COLUMNS, VAR_LIMIT}
 use Rattle.prop_core.specs.declared.lit.Lit.{Lit}
 use Rattle.prop_core.specs.Clauses.{Clause}
 use Rattle.card_counter.specs.declared.counter.Column.{Column}
@@ -101,7 +101,7 @@ pub record IsAdded (old : CounterState) (vars : ℕ) (inputs : List Lit) (rows :
   pub size : column.count ≡ length inputs
   pub some : 1 ≤ length old.inputs
   pub made : IsMade vars old
-  pub few : length old.columns < 256
+  pub few : length old.columns < MOST_COLUMNS
   pub within : vars + length old.inputs ≤ VAR_LIMIT
 
 module _ (old : CounterState) (vars : ℕ) (inputs : List Lit) (rows : List ℕ) (columns later : List Column) (spare : ℕ) (column : Column) (added : IsAdded old vars inputs rows columns later spare column) where

@@ -2,7 +2,7 @@
 -- one for each column.
 use Rattle.std.specs.Prelude.{◌≡◌, ℕ, suc, ◌+◌, ◌<◌, ◌≤◌, List, [], ◌∷◌, ◌++◌, drop, map, length}
 use Rattle.std.specs.List.{range_with_len, AllByRecursion}
-use Rattle.des_base.specs.declared.TheConstants.{VAR_LIMIT}
+use Rattle.des_base.specs.declared.TheConstants.{MOST_COLUMNS, VAR_LIMIT}
 use Rattle.prop_core.specs.declared.lit.Lit.{Lit}
 use Rattle.card_counter.specs.declared.counter.Column.{Column}
 use Rattle.card_counter.specs.CounterState.{CounterState, column_at, var_at}
@@ -24,9 +24,9 @@ counter_of inputs rows columns spare = record { inputs = inputs; columns = colum
 abbrev pub var_of : List ℕ → List Column → ℕ → ℕ → ℕ
 var_of rows columns i j = var_at (column_at (columns_of rows 0 columns) j) i
 
--- Each input has a row, no column was made with more inputs than there are, all variables are small, and columns are at most 256.
+-- Each input has a row, no column was made with more inputs than there are, all variables are small, and there are at most as many columns as there may be.
 pub record IsLaidOut (inputs : List Lit) (rows : List ℕ) (columns : List Column) : Type 0 where
   pub each : length rows ≡ length inputs
   pub counts : AllByRecursion (λ column. column.count ≤ length rows) columns
   pub small : (i j : ℕ) → i < length inputs → j < length columns → var_of rows columns i j < VAR_LIMIT
-  pub few : length columns ≤ 256
+  pub few : length columns ≤ MOST_COLUMNS

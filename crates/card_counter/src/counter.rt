@@ -1,6 +1,6 @@
 // A counter: clauses that count how many of its inputs are true, with one column for each number.
 ghost use Rattle.std.specs.Prelude.{◌≡◌, ◌+◌, ◌*◌, ◌-◌, ◌<◌, ◌≤◌, length, OnOk, OnErr, IfOk, All};
-ghost use Rattle.des_base.specs.declared.TheConstants.{VAR_LIMIT};
+ghost use Rattle.des_base.specs.declared.TheConstants.{MOST_COLUMNS, VAR_LIMIT};
 ghost use Rattle.card_counter.specs.CounterState.{IsCounter, IsMade, IsPlace, IsReachedAt, variable, without_columns, with_room, clauses_at, clauses_of_column, clauses_of_input, kept_at, counted_at, bound_literal};
 ghost use Rattle.card_counter.specs.Counting.{Counts, Bounds};
 ghost use Rattle.card_counter.specs.Growing.{AddsColumn, AddsInput, AddsInputs, AddsWithin, HasRoom, MayCount};
@@ -73,7 +73,7 @@ impl Counter {
     /// How many columns there are.
     pub fn columns(&self) -> u32
         ensures columns { result ≡ length self.now.columns }
-        ensures few { result ≤ 256 }
+        ensures few { result ≤ MOST_COLUMNS }
         ensures counter { IsCounter self.now }
     {
         self.columns.len() as u32
@@ -81,7 +81,7 @@ impl Counter {
 
     /// A law: no column lacks a variable for an input, no two variables are the same, and the columns are few.
     pub fn is_counter(&self)
-        ensures few { length self.now.columns ≤ 256 }
+        ensures few { length self.now.columns ≤ MOST_COLUMNS }
         ensures counter { IsCounter self.now }
     {
         self.columns();
@@ -90,7 +90,7 @@ impl Counter {
     /// Adds a column: a new variable for each input, and clauses that say what they count. It uses up reserved room.
     pub fn add_column(&mut self, vars: &mut Vars, out: &mut Clauses) -> Result<(), Memory>
         requires some { 1 ≤ length self.old.inputs }
-        requires few { length self.old.columns < 256 }
+        requires few { length self.old.columns < MOST_COLUMNS }
         requires within { vars.old + length self.old.inputs ≤ VAR_LIMIT }
         requires made { IsMade vars.old self.old }
         ensures column { OnOk result (AddsColumn self.old vars.old out.old.clauses self.new vars.new out.new.clauses) }
