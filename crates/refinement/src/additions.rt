@@ -4,7 +4,7 @@ ghost use Rattle.des_net.specs.Network.{component_at};
 ghost use Rattle.refinement.specs.Near.{IsByState};
 
 use crate::by_state::{ByState, by_state, near_of};
-use crate::change::Change;
+use crate::change::FollowerChange;
 use crate::effect::{ELSEWHERE, Effect, effects_of};
 use crate::follower::Follower;
 use crate::following::starts_so;
@@ -19,14 +19,14 @@ use std::alloc::Global;
 #[derive(Clone, Copy)]
 pub struct Move {
     pub event: EventId,
-    pub change: Change,
+    pub change: FollowerChange,
 }
 
 /// An action of the component that is followed, and what it does to the other one.
 #[derive(Clone, Copy)]
 pub struct Moving {
     pub action: ActionId,
-    pub change: Change,
+    pub change: FollowerChange,
 }
 
 /// A component that is to be added.
@@ -48,7 +48,7 @@ impl Addition {
     /// How many transitions it has.
     pub fn transitions(&self) -> usize {
         let mut count: usize = 0;
-        for change in Change::ALL {
+        for change in FollowerChange::ALL {
             if self.moving.iter().any(|one| one.change == change) {
                 count = count.saturating_add(change.transitions());
             }
@@ -198,7 +198,7 @@ fn moving_of(
             continue;
         }
         match take_change(&mut effects, action) {
-            Some(Change::Idle) => {}
+            Some(FollowerChange::Idle) => {}
             Some(change) => moving.push(Moving { action, change })?,
             None => return Ok(None),
         }
@@ -207,9 +207,9 @@ fn moving_of(
 }
 
 // The change by an action, once: from then on it's idle.
-fn take_change(effects: &mut Vec<Effect>, action: ActionId) -> Option<Change> {
+fn take_change(effects: &mut Vec<Effect>, action: ActionId) -> Option<FollowerChange> {
     let effect = effects.get_mut(action.0 as usize)?;
-    let change = Change::of(effect);
+    let change = FollowerChange::of(effect);
     *effect = ELSEWHERE;
     change
 }
@@ -274,7 +274,7 @@ pub fn moves_of(
 }
 
 /// The changes, each where it comes first.
-pub fn changes_in(alloc: Global, moves: &[Move]) -> Result<Vec<Change>, Memory> {
+pub fn changes_in(alloc: Global, moves: &[Move]) -> Result<Vec<FollowerChange>, Memory> {
     let mut changes = Vec::new(alloc);
     for one in moves {
         if !changes.as_slice().contains(&one.change) {

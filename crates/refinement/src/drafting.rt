@@ -2,7 +2,7 @@
 ghost use Rattle.std.specs.Prelude.{◌≤◌, ◌<◌, ◌^◌, length};
 
 use crate::additions::{Addition, Move, Planned, changes_in, moves_of};
-use crate::change::Change;
+use crate::change::FollowerChange;
 use des_base::{Lines, Memory, Name, NameFault, NameTable, push_decimal};
 use des_net::{MOST_COMPONENTS, Network};
 use model_text::print_model;
@@ -151,7 +151,7 @@ fn add_name(names: &mut NameTable, name: Name) -> Result<bool, Memory> {
 fn push_component(
     name: &Name,
     addition: &Addition,
-    changes: &[Change],
+    changes: &[FollowerChange],
     text: &mut Vec<u8>,
 ) -> Result<(), Memory> {
     text.extend_from_slice(b"component ")?;
