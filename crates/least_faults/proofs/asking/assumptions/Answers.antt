@@ -17,9 +17,6 @@ returns-in_err-extend_from_slice-clause-kept g c = question_same c.args.parts.no
 pub bound-requires-clause-ready : goal.bound-requires-clause-ready
 bound-requires-clause-ready g c = beside _ _ c.args.parts.now c.args.book.now.entries c.requires.ready
 
-pub returns-in_err-bound-clause-ready : goal.returns-in_err-bound-clause-ready
-returns-in_err-bound-clause-ready g c = c.bound.ensures.alone c.requires.ready
-
 pub returns-clause-ready : goal.returns-clause-ready
 returns-clause-ready g c = elim c.match-within.branch [
   | in-Some+in_ok-bound+in_ok-push w ↦

@@ -1,4 +1,4 @@
-use Rattle.std.proofs.Common.{ap, append-nil, arith, length, ◌∙◌, [], ◌∷◌, refl, subst, sym}
+use Rattle.std.proofs.Common.{ap, arith, length, ◌∙◌, [], ◌∷◌, refl, subst, sym}
 use Rattle.card_counter.specs.CounterState.{CounterState}
 use Rattle.least_faults.proofs.Columns.{column_added, column_fits, few_written, more_values, written_alone, reserved_ready}
 use Rattle.sat_solve.proofs.Freshness.{known_after}
@@ -79,6 +79,3 @@ pub returns-in_err-add_column-clause-kept : goal.returns-in_err-add_column-claus
 returns-in_err-add_column-clause-kept g c =
     let err = c.in_err-add_column.ensures.err in
     question_kept c.args.parts.now c.add_column.new.self c.add_column.new.vars c.reserve-2.new.self c.args.book.now.entries c.reserve.new.self.entries err.0 err.1 c.reserve-2.ensures.rank (ap axioms_of c.reserve.ensures.same)
-
-pub returns-in_err-add_column-clause-axioms : goal.returns-in_err-add_column-clause-axioms
-returns-in_err-add_column-clause-axioms g c = record { axioms = []; more = c.reserve.ensures.same ∙ sym (append-nil c.args.book.now.entries) }

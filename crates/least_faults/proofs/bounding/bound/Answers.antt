@@ -1,4 +1,4 @@
-use Rattle.std.proofs.Common.{◌<◌, [], ◌∷◌, ◌++◌, Some, ap, arith, length, subst, sym}
+use Rattle.std.proofs.Common.{[], ◌∷◌, ◌++◌, Some, ap, arith}
 use Rattle.least_faults.proofs.AxiomLists.{adds_both, adds_none}
 use Rattle.least_faults.proofs.Beside.{alone_still}
 use Rattle.least_faults.proofs.Posing.{clauses_pose}
@@ -16,9 +16,6 @@ loop-init g c =
       columns = omega (arith, first);
       upto = omega (arith, first);
     }
-
-pub add_column-requires-clause-some : goal.add_column-requires-clause-some
-add_column-requires-clause-some g c = subst (λ inputs. 0 < length inputs) (sym c.loop.invariant.kept.counter.inputs) c.requires.some
 
 pub loop-preserved : goal.loop-preserved
 loop-preserved g c =

@@ -1,4 +1,4 @@
-use Rattle.std.proofs.Common.{◌∙◌, ◌≤◌, sym, List, length, subst, ap, take, arith}
+use Rattle.std.proofs.Common.{◌≤◌, sym, List, length, subst, take, arith}
 use Rattle.std.proofs.lemmas.Grind.{common_steps}
 use Rattle.prop_core.specs.declared.lit.Lit.{Lit}
 use Rattle.sat_prop.specs.TrailState.{TrailState}
@@ -19,9 +19,6 @@ forget-requires-clause-kept c =
 
 pub forget-requires-clause-known : goal.forget-requires-clause-known
 forget-requires-clause-known c = let d = c.deref.ensures.value in rw d (values_known _ _ _ c.self.invariant.state.justified.known c.self.invariant.values)
-
-pub forget-requires-clause-open_before : goal.forget-requires-clause-open_before
-forget-requires-clause-open_before c = let d = c.deref.ensures.value in rw d c.self.invariant.state.justified.open_before
 
 pub forget-requires-clause-values : goal.forget-requires-clause-values
 forget-requires-clause-values c = let d = c.deref.ensures.value in rw d (values_roomier _ _ _ _ c.self.invariant.values (omega arith))
@@ -50,15 +47,3 @@ invariant_of-self c =
       room_levels = let a = c.self.invariant.room_levels in let b = c.truncate-3.ensures.capacity in omega arith;
       room_starts = let a = c.self.invariant.room_starts in let b = c.truncate-4.ensures.capacity in omega arith;
     }
-
-pub returns : goal.returns
-returns c = record {
-  kept = c.count_up_to-kept.result;
-  cut = c.count_up_to-kept.ensures;
-  literals = c.truncate.ensures.items ∙ ap (λ (s : TrailState). take c.count_up_to-kept.result s.literals) c.self.view_is;
-  reasons = c.truncate-2.ensures.items ∙ ap (λ (s : TrailState). take c.count_up_to-kept.result s.reasons) c.self.view_is;
-  clauses = ap (λ (s : TrailState). s.clauses) c.self.view_is;
-  attached = ap (λ (s : TrailState). s.attached) c.self.view_is;
-  vars = ap (λ (s : TrailState). s.vars) c.self.view_is;
-  spare = ap (λ (s : TrailState). s.spare) c.self.view_is;
-}
