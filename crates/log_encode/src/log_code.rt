@@ -101,7 +101,7 @@ impl LogCode {
         let guards = guards_of(alloc, asked, ends.as_slice())?;
         let mut clauses = Clauses::new(alloc);
         write_all_closed(grid, ends.as_slice(), &mut clauses)?;
-        out.append(&clauses)?;
+        out.absorb(clauses)?;
         vars.fresh(guards.len() as u32);
         Ok(LogCode {
             alloc,

@@ -1,7 +1,7 @@
 -- The clauses of a list as axioms of a book, one after another, and what the book then has.
 use Rattle.std.proofs.Common.{◌≡◌, ◌∙◌, ℕ, ◌+◌, ◌-◌, ◌<◌, ◌≤◌, false, List, [], ◌∷◌, ◌++◌, length, map, take, Option, Some, unwrap_or, get_or, eqb, refl, sym, ap, arith, sum_by, count_by, cond}
 use Rattle.std.proofs.lemmas.Bool.{ne_eqb}
-use Rattle.std.proofs.lemmas.List.{append_assoc, append-nil, map-append, take_more}
+use Rattle.std.proofs.lemmas.List.{append_assoc, append-nil, map-append, take_all, take_more}
 use Rattle.std.proofs.lemmas.List.Elements.{filter_map-append}
 use Rattle.std.proofs.lemmas.List.Sums.{sum_by_more, sum_by_more_le, sum_by-append, sum_by-cons}
 use Rattle.std.proofs.lemmas.Option.{slice_get-get_or}
@@ -75,3 +75,9 @@ learnt_between clauses since =
     let axioms = sum_by-append count (map axiomatic clauses) (mark 0 ∷ since) in
     let opening = sum_by-cons count (mark 0) since in
     omega (arith, closing, axioms, opening, none_learnt clauses)
+
+-- ---- the first axioms of a book that was empty, and of one that none came into
+
+pub all_of_empty : (book made : List BookEntry) (clauses : List Clause) → length book ≤ 0 → made ≡ map axiomatic clauses → made ≡ book ++ map axiomatic (take (length clauses) clauses)
+all_of_empty [] made clauses none is = is ∙ ap (λ (cs : List Clause). map axiomatic cs) (sym (take_all (length clauses) clauses (omega arith)))
+all_of_empty (entry ∷ book) made clauses none is = absurd (omega (arith, none))

@@ -7,8 +7,21 @@ use des_base::Memory;
 use prop_core::{ClauseId, Clauses};
 
 impl Ledger {
-    /// Adds clauses as axioms. If memory runs out, the book may hold the first of them.
-    pub fn add_axioms(&mut self, clauses: &Clauses) -> Result<(), Memory>
+    /// Adds clauses as axioms. An empty book keeps the list itself, so that no clause is copied. If memory runs out, the book
+    /// may hold the first of them.
+    pub fn add_axioms(&mut self, clauses: Clauses) -> Result<(), Memory>
+        ensures added { OnOk result (self.new.entries ≡ self.old.entries ++ map axiomatic clauses.clauses) }
+        ensures some { (count : ℕ) × (self.new.entries ≡ self.old.entries ++ map axiomatic (take count clauses.clauses)) }
+    {
+        if self.entries() > 0 {
+            return self.add_each(&clauses);
+        }
+        *self = Ledger::of_axioms(self.alloc(), clauses)?;
+        Ok(())
+    }
+
+    // Adds clauses as axioms, one after another.
+    fn add_each(&mut self, clauses: &Clauses) -> Result<(), Memory>
         ensures added { OnOk result (self.new.entries ≡ self.old.entries ++ map axiomatic clauses.now.clauses) }
         ensures some { (count : ℕ) × (self.new.entries ≡ self.old.entries ++ map axiomatic (take count clauses.now.clauses)) }
     {

@@ -97,6 +97,11 @@ impl Ledger {
         })
     }
 
+    // The allocator that the book was begun with.
+    pub(crate) fn alloc(&self) -> Global {
+        self.alloc
+    }
+
     /// Begins an empty book, with no room.
     pub fn clear(&mut self)
         ensures { self.new ≡ record { entries = []; spare_clauses = 0; spare_literals = 0 } }

@@ -129,4 +129,15 @@ impl Clauses {
     {
         self.pieces.append(&more.pieces)
     }
+
+    /// Adds all clauses of another list behind these, and lets the list go. Without clauses and without room it takes the
+    /// list itself, so that no clause is copied. The room that was reserved stays.
+    pub fn absorb(&mut self, more: Clauses) -> Result<(), Memory>
+        ensures added { OnOk result (self.new.clauses ≡ self.old.clauses ++ more.clauses) }
+        ensures spare_clauses { self.new.spare_clauses ≡ self.old.spare_clauses }
+        ensures spare_literals { self.new.spare_literals ≡ self.old.spare_literals }
+        ensures err { OnErr result (self.new ≡ self.old) }
+    {
+        self.pieces.absorb(more.pieces)
+    }
 }

@@ -137,6 +137,31 @@ impl<T: Copy> Pieces<T> {
         self.items.extend_from_slice(&more.items).unwrap();
         Ok(())
     }
+
+    /// Adds all lists of others behind these, and lets the others go. Without lists and without room it takes theirs, so that
+    /// nothing is copied. The room that was reserved stays.
+    pub fn absorb(&mut self, more: Pieces<T>) -> Result<(), Memory>
+        ensures added { OnOk result (self.new.pieces ≡ self.old.pieces ++ more.pieces) }
+        ensures spare_pieces { self.new.spare_pieces ≡ self.old.spare_pieces }
+        ensures spare_items { self.new.spare_items ≡ self.old.spare_items }
+        ensures err { OnErr result (self.new ≡ self.old) }
+    {
+        if self.len() > 0 || self.spare_pieces > 0 || self.spare_items > 0 {
+            return self.append(&more);
+        }
+        *self = more.without_room();
+        Ok(())
+    }
+
+    // The same lists, and no room for more is promised.
+    fn without_room(self) -> Pieces<T>
+        ensures { result ≡ record { pieces = self.pieces; spare_pieces = 0; spare_items = 0 } }
+    {
+        let mut kept = self;
+        kept.spare_pieces = 0;
+        kept.spare_items = 0;
+        kept
+    }
 }
 
 // Where the list at a place starts: where the one before it ends.

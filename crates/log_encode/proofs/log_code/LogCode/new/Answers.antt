@@ -75,7 +75,7 @@ returns-clause-vars c =
 pub returns-clause-written : goal.returns-clause-written
 returns-clause-written c =
     let is = begins c.args.net.now c.args.grid c.args.vars.now c.count-asked.result c.in_ok-ends.ends.items c.count-asked.ensures.count c.requires.events c.requires.made c.requires.few c.in_ok-ends.ensures in
-    subst (λ k. AppendsFirst c.args.net.now c.args.grid.steps (read_meanings (empty_code c.args.net.now c.args.grid k)) c.args.out.now.clauses c.append.new.self.clauses) c.count-asked.ensures.count
-    (first_appends c.args.net.now c.args.grid c.count-asked.result c.in_ok-ends.ends.items c.args.out.now.clauses c.write_all_closed.new.out.clauses c.append.new.self.clauses is
+    subst (λ k. AppendsFirst c.args.net.now c.args.grid.steps (read_meanings (empty_code c.args.net.now c.args.grid k)) c.args.out.now.clauses c.absorb.new.self.clauses) c.count-asked.ensures.count
+    (first_appends c.args.net.now c.args.grid c.count-asked.result c.in_ok-ends.ends.items c.args.out.now.clauses c.write_all_closed.new.out.clauses c.absorb.new.self.clauses is
     (c.in_ok-write_all_closed.ensures ∙ ap (λ (s : ClauseStore). s.clauses ++ all_closed_written c.args.grid c.as_slice-2.result.now) c.new-clauses.ensures ∙ ap (all_closed_written c.args.grid) c.as_slice-2.ensures.value)
-    c.in_ok-append.ensures.added)
+    c.in_ok-absorb.ensures.added)

@@ -1,9 +1,7 @@
-use Rattle.std.proofs.Common.{◌<◌, length, arith}
-use Rattle.proof_ledger.proofs.AxiomLists.{axioms_next}
+use Rattle.std.proofs.Common.{length, arith}
+use Rattle.proof_ledger.proofs.AxiomLists.{all_of_empty}
 use Rattle.proof_ledger.proofs.ledger.Ledger.add_axioms.Goals as goal
 
-pub loop-before-preserved : goal.loop-before-preserved
-loop-before-preserved c =
-    let all = c.args.clauses.now.clauses in
-    let below : c.loop-before.before < length all = omega (arith, c.loop-before-test.true, c.len-before-end.ensures) in
-    record { added = axioms_next c.args.self.now.entries c.loop-before.self.entries c.add_axiom.new.self.entries all c.loop-before.before c.clause.result.now below c.clause.ensures c.loop-before.invariant.added c.in_ok-add_axiom.ensures.added }
+pub returns-clause-some : goal.returns-clause-some
+returns-clause-some c =
+    (length c.args.clauses.clauses, all_of_empty c.args.self.now.entries c.in_ok-self.field-0.entries c.args.clauses.clauses (omega (arith, c.if-entries-gt0.false, c.entries.ensures.count)) c.in_ok-self.ensures)

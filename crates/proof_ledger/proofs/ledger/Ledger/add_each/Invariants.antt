@@ -1,5 +1,5 @@
 use Rattle.std.proofs.Common.{◌≡◌, ◌++◌, map, take}
-use Rattle.proof_ledger.proofs.ledger.Ledger.add_axioms.Given as goal
+use Rattle.proof_ledger.proofs.ledger.Ledger.add_each.Given as goal
 use Rattle.proof_ledger.specs.Book.{axiomatic}
 
 abbrev pub invariant-loop-before : goal.invariant-loop-before
