@@ -1,13 +1,14 @@
 -- The clause of a watch that is looked at: what is known of it, and what becomes of the watch.
-use Rattle.std.proofs.Common.{◌≡◌, ◌∙◌, ℕ, ◌+◌, ◌<◌, ◌≤◌, true, ◌++◌, ◌∷◌, [], List, refl, ap, sym, subst, length, take, arith, ⊎_elim, Some, Option}
+use Rattle.std.proofs.Common.{◌≡◌, ◌∙◌, ℕ, ◌+◌, ◌<◌, ◌≤◌, true, false, ◌||◌, ◌++◌, ◌∷◌, [], Bool, List, refl, ap, sym, subst, length, take, get_or, arith, ⊎_elim, Some, Option}
 use Rattle.std.specs.Prelude.{◌⊎◌, Contains, IfSome}
-use Rattle.std.specs.List.{list_any}
+use Rattle.std.specs.List.{list_any, list_all}
+use Rattle.std.proofs.lemmas.Bool.{and_from, or_left, or_right, or_cases}
 use Rattle.std.proofs.lemmas.Grind.{common_steps}
 use Rattle.prop_core.specs.declared.lit.Lit.{Lit}
 use Rattle.prop_core.specs.Clauses.{Clause, HasValues, negation, same_literal, is_true, is_false, AreConsistent}
 use Rattle.prop_core.specs.Derivation.{standing, falsified, clause_numbered}
-use Rattle.prop_core.specs.Trail.{is_forced_by}
-use Rattle.prop_core.proofs.Literals.{true_at, below_at, open_parts}
+use Rattle.prop_core.specs.Trail.{no_literal, is_forced_by}
+use Rattle.prop_core.proofs.Literals.{true_at, below_at, open_parts, same_is}
 use Rattle.prop_core.proofs.Forcing.{forced_stands}
 use Rattle.sat_prop.specs.TrailState.{TrailState, literal_at, IsKnownClause}
 use Rattle.sat_prop.specs.Changes.{IsFront, with_true_literal}
@@ -15,7 +16,7 @@ use Rattle.sat_prop.specs.declared.watch_lists.Watch.{Watch}
 use Rattle.sat_prop.specs.declared.watched.Inspected.{Inspected}
 use Rattle.sat_prop.specs.declared.watched.Inspected.TheVariants.{Stays, Moves, False}
 use Rattle.sat_prop.specs.Watches.{IsLive, watch_at, other_literal}
-use Rattle.sat_prop.specs.Watching.{WatchedState, AreWatched, AreVisited, IsSettled, IsInspectedWatch, IsReplaced, IsReplacement}
+use Rattle.sat_prop.specs.Watching.{WatchedState, AreTwo, AreWatched, AreVisited, IsSettled, IsInspectedWatch, IsReplaced, IsReplacement}
 use Rattle.sat_prop.specs.Kept.{IsTrailState}
 use Rattle.sat_prop.proofs.Fronts.{held_same, front_held, front_same, number_of, known_at}
 use Rattle.sat_prop.proofs.Links.{not_both}
@@ -89,12 +90,38 @@ inspected_forced old new w n clause l id k b a h held forced t = ⊎_elim
 
 -- ---- another literal was looked for, or the other one was made true
 
--- the clause has the other literal
-pub other_has : (t : TrailState) (w : WatchedState) (n : ℕ) → AreWatched t w → n < length w.lists.watches → IsLive w.lists.watches n → IfSome (clause_numbered t.clauses (watch_at w.lists.watches n).clause) (λ clause. list_any (same_literal (other_literal w.lists.watches n)) clause ≡ true)
-other_has t w n a h live =
+-- the clause has both literals
+pub two_watched : (t : TrailState) (w : WatchedState) (n : ℕ) → AreWatched t w → n < length w.lists.watches → IsLive w.lists.watches n → IfSome (clause_numbered t.clauses (watch_at w.lists.watches n).clause) (λ clause. AreTwo clause (watch_at w.lists.watches n).lit (other_literal w.lists.watches n))
+two_watched t w n a h live =
     let here = a.each n h live in
     let there = a.each (watch_at w.lists.watches n).twin here.twin (twin_live t.clauses t.attached w.lists.watches n here live) in
-    subst (λ (o : Option Clause). IfSome o (λ clause. list_any (same_literal (other_literal w.lists.watches n)) clause ≡ true)) (sym here.held) (other_among t w.lists.watches n here there)
+    subst (λ (o : Option Clause). IfSome o (λ clause. AreTwo clause (watch_at w.lists.watches n).lit (other_literal w.lists.watches n))) (sym here.held) (record { first_among = here.among; second_among = other_among t w.lists.watches n here there; apart = here.apart })
+
+-- the first literal that hasn't been looked at makes the negation of it false
+pub falls_by : (literals : List Lit) (l : Lit) (seen : ℕ) → seen < length literals → literal_at literals seen ≡ negation l → is_false (take (seen + 1) literals) l ≡ true
+falls_by literals l seen within falls =
+    let here : get_or (take (seen + 1) literals) seen no_literal ≡ get_or literals seen no_literal = grind (arith, common_steps) in
+    let long : seen < length (take (seen + 1) literals) = grind (arith, common_steps) in
+    true_at (take (seen + 1) literals) (negation l) seen long (here ∙ falls)
+
+-- a clause of two literals has none besides them: each is the second, or as the first is
+pub pair_made : (clause : Clause) (first second : Lit) (f : Lit → Bool) → length clause ≡ 2 → AreTwo clause first second → f first ≡ true → list_all (λ l. same_literal second l || f l) clause ≡ true
+pair_made [] first second f long two is = absurd (omega (arith, long))
+pair_made (a ∷ []) first second f long two is = absurd (omega (arith, long))
+pair_made (a ∷ b ∷ c ∷ rest) first second f long two is = absurd (omega (arith, long))
+pair_made (a ∷ b ∷ []) first second f long two is = ⊎_elim
+    (λ here. and_from _ _ (or_right (same_literal second a) (f a) (as_first a here)) (and_from _ _ (or_left _ _ (⊎_elim (λ there. absurd (not_same a here there)) (last second b) (or_cases _ _ two.second_among))) refl))
+    (λ rest. let here = last first b rest in and_from _ _ (or_left _ _ (⊎_elim (λ there. there) (λ there. absurd (not_same b here (last second b there))) (or_cases _ _ two.second_among))) (and_from _ _ (or_right (same_literal second b) (f b) (as_first b here)) refl))
+    (or_cases _ _ two.first_among)
+  where
+    as_first : (l : Lit) → same_literal first l ≡ true → f l ≡ true
+    as_first l here = subst (λ (x : Lit). f x ≡ true) (same_is first l here) is
+
+    not_same : (l : Lit) → same_literal first l ≡ true → same_literal second l ≡ true → ⊥
+    not_same l here there = not_both _ (subst (λ (x : Lit). same_literal first x ≡ true) (sym (same_is second l there)) here) two.apart
+
+    last : (l m : Lit) → list_any (same_literal l) (m ∷ []) ≡ true → same_literal l m ≡ true
+    last l m any = ⊎_elim (λ here. here) (λ none. absurd (not_both false none refl)) (or_cases (same_literal l m) false any)
 
 inspected_replaced : (old new : TrailState) (w : WatchedState) (n : ℕ) (result : Inspected) → IsKeptOr old new (other_literal w.lists.watches n) (watch_at w.lists.watches n).clause → w.seen < length old.literals → AreWatched old w → n < length w.lists.watches → IsLive w.lists.watches n
     → literal_at old.literals w.seen ≡ negation (watch_at w.lists.watches n).lit → IsReplaced old new (watch_at w.lists.watches n).clause (other_literal w.lists.watches n) w.seen result → IsInspectedWatch new w n result

@@ -127,11 +127,21 @@ fn latest(trail: &Trail, clause: &[Lit], but: Option<Lit>) -> Option<Lit>
 {
     let mut best: Option<Lit> = None;
     for lit in clause {
-        if but != Some(*lit) && is_later(trail, &best, *lit) {
+        if but == Some(*lit) {
+            continue;
+        }
+        if !is_false(trail, *lit) {
+            return Some(*lit);
+        }
+        if is_later(trail, &best, *lit) {
             best = Some(*lit);
         }
     }
     best
+}
+
+fn is_false(trail: &Trail, lit: Lit) -> bool {
+    trail.value(lit.var()) == Some(!lit.is_positive())
 }
 
 // Whether a literal became false later than the best so far.

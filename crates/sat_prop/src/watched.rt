@@ -1,20 +1,20 @@
 // Propagation by watched literals: a clause is looked at when one of its two watched literals becomes false. A clause that a later learnt one
 // subsumes is no longer watched.
 ghost use Rattle.std.specs.Prelude.{◌≡◌, ◌+◌, ◌<◌, ◌≤◌, ◌||◌, ◌⊎◌, true, false, length, max, min, take, Some, Contains, OnOk, OnErr, IfSome, IfNone};
-ghost use Rattle.std.specs.List.{list_any, list_all};
+ghost use Rattle.std.specs.List.{list_all};
 ghost use Rattle.prop_core.specs.Clauses.{same_literal, is_false, is_true};
 ghost use Rattle.prop_core.specs.Derivation.{clause_numbered};
 ghost use Rattle.prop_core.specs.Trail.{is_forced_by};
 ghost use Rattle.sat_prop.specs.Quiet.{AreQuiet, IsConflict, IsPropagated};
 ghost use Rattle.sat_prop.specs.Changes.{IsFront, Propagates, with_true_literal};
 ghost use Rattle.sat_prop.specs.Watches.{IsFirstWaiting, IsLive};
-ghost use Rattle.sat_prop.specs.Watching.{AreWatched, AreVisited, IsVisiting, Visits, IsInspectedWatch, IsReplacement, IsReplaced, no_watched};
+ghost use Rattle.sat_prop.specs.Watching.{AreTwo, AreWatched, AreVisited, IsVisiting, Visits, IsInspectedWatch, IsReplacement, IsReplaced, no_watched};
 
 use crate::propagator::Propagated;
 use crate::recent::Recent;
 use crate::standing::Stands;
 use crate::trail::Trail;
-use crate::watch_lists::WatchLists;
+use crate::watch_lists::{Watch, WatchLists};
 use des_base::{Memory, VAR_LIMIT};
 use prop_core::{ClauseId, Clauses, Lit};
 use std::alloc::Global;
@@ -254,7 +254,7 @@ impl Watched {
         if watch.lit != lit || trail.holds_up_to(other, self.seen) {
             return Inspected::Stays;
         }
-        replace_or_force(trail, db, ClauseId(watch.clause as u64), other, self.seen)
+        replace_or_force(trail, db, watch, other, self.seen)
     }
 }
 
@@ -271,19 +271,21 @@ enum Inspected {
 fn replace_or_force(
     trail: &mut Trail,
     db: &Clauses,
-    id: ClauseId,
+    watch: Watch,
     other: Lit,
     place: u32,
 ) -> Inspected
     requires grown { IsFront trail.old.clauses db.now.clauses }
-    requires attached { Contains trail.old.attached id }
-    requires among { IfSome (clause_numbered trail.old.clauses id) (λ clause. list_any (same_literal other) clause ≡ true) }
+    requires attached { Contains trail.old.attached watch.clause }
+    requires two { IfSome (clause_numbered trail.old.clauses watch.clause) (λ clause. AreTwo clause watch.lit other) }
+    requires falls { is_false (take (place + 1) trail.old.literals) watch.lit ≡ true }
     requires place { place < length trail.old.literals }
-    ensures kept { (trail.new ≡ trail.old) ⊎ (trail.new ≡ with_true_literal trail.old other (Some id)) }
-    ensures replaced { IsReplaced trail.old trail.new id other place result }
+    ensures kept { (trail.new ≡ trail.old) ⊎ (trail.new ≡ with_true_literal trail.old other (Some watch.clause)) }
+    ensures replaced { IsReplaced trail.old trail.new watch.clause other place result }
 {
     trail.is_sound();
-    match replacement(trail, db.clause(id), other, place) {
+    let id = ClauseId(watch.clause as u64);
+    match further(trail, db.clause(id), watch.lit, other, place) {
         Some(found) => Inspected::Moves(found),
         None => {
             if make_true(trail, db, id, other) {
@@ -312,6 +314,20 @@ fn make_true(trail: &mut Trail, db: &Clauses, id: ClauseId, lit: Lit) -> bool
             true
         }
     }
+}
+
+// A literal of the clause besides the two that are watched, one of which is false, that no literal up to a place makes false. A clause of two
+// has none, so it isn't read.
+fn further(trail: &Trail, clause: &[Lit], false_one: Lit, other: Lit, place: u32) -> Option<Lit>
+    requires two { AreTwo clause.now false_one other }
+    requires falls { is_false (take (place + 1) trail.now.literals) false_one ≡ true }
+    ensures some { IfSome result (IsReplacement trail.now.literals clause.now other place) }
+    ensures none { IfNone result (list_all (λ l. same_literal other l || is_false (take (place + 1) trail.now.literals) l) clause.now ≡ true) }
+{
+    if clause.len() == 2 {
+        return None;
+    }
+    replacement(trail, clause, other, place)
 }
 
 // A literal of the clause, not the other one that is watched, that no literal up to a place makes false.
