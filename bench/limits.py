@@ -8,7 +8,7 @@ where none is given. `check` needs a C compiler, for its yardstick lratcheck.c. 
 Seconds are those of the processor, the least of three runs that take turns with those of the yardstick. A ratio is that of the seconds, and in brackets that of the memory. The goals stand beside the ratios; what misses its goal is
 printed as it is, and nothing fails.
 
-Before: on 30 November 2026, by a build of the program without any of what is told here and without its proof, on four shared processors under heavy load, so that seconds vary by up to two; `-` where 30 seconds (40 for `verdicts`) weren't enough. After: on 1 December by the proved program, on another such machine with other work beside; medians of three or four runs of `check`, `cheapest` and `verdicts`, of which the ratios with 100 and 300 fault events went from 3.9 to 7.0 and 3.4 to 4.5 for `cheapest`, and from 1.9 to 2.8 and 3.8 to 7.9 for `verdicts`.
+Before: on 30 November 2026, by a build of the program without any of what is told here and without its proof, on four shared processors under heavy load, so that seconds vary by up to two; `-` where 30 seconds (40 for `verdicts`) weren't enough. After: on 1 December by the proved program, on another such machine with other work beside; medians of three or four runs of `check`, `cheapest` and `verdicts`, of which the ratios with 100 and 300 fault events went from 3.9 to 7.0 and 3.4 to 4.5 for `cheapest`, and from 1.9 to 2.8 and 3.8 to 7.9 for `verdicts`; the row of `twin` on 2 December, when literals took four bytes.
 In between came the checker's clauses by number and one look at a literal, steps of a proof that are checked as their lines are read, with derived clauses in one list, variables that wait in runs of equal rank in place of a heap, a twin question's list that its book takes over, the alarms' order by what stands before each, transitions by state and action with the place of a state's own number tried first, the table of touching events and
 their counts event by event, the labels of an alarm as a set, the advice of deadlines over lists of earlier alarms and over the events that the log's code keeps of each, and sums of the counter that `verdicts` tries first.
 
@@ -26,7 +26,7 @@ their counts event by event, the labels of an alarm as a set, the advice of dead
 | `diagnose`, the largest model, 0 steps | 0.38 s | 0.14 s | 0.15 s |
 | `verdicts`, 30, 100, 300 fault events, beside `diagnose` | 3.7, 29 times, - | 1.9, 2.5, 4.9 | 5 |
 | `cheapest`, 30, 100, 300 fault events, beside `diagnose` (memory) | 14 (2.8), 6.3 (9.1), 3.5 (11.6) | 9.7 (2.6), 4.9 (8.5), 3.7 (10.6) | 4 (1.5) |
-| `twin`, 40 devices, 200 steps, AFTER 100, bytes for each literal, which takes 8 itself | 16.9 | 8.7 | 10.4 |
+| `twin`, 40 devices, 200 steps, AFTER 100, bytes for each literal, which took 8 itself and takes 4 now | 16.9 | 4.6 | 10.4 |
 
 Half of what `check` does on proofs is to read numbers, and two fifths to follow hints. Of its memory on proofs the table can't say much: both programs are below what is seen from outside (by GNU time 8.9 MiB for 8 holes, and 8.2 for the C checker).
 
@@ -188,7 +188,7 @@ def twin_rows(program, folder):
         model += [f"event jam{u} fault : u{u}.jam"] + [f"event e{u}-{e} alarm L{u}-{e} : u{u}.a{e}" for e in range(9)]
     path, literals = text(f"{folder}/m", model), 200 * 100 * 360
     (seconds, memory), (_, empty) = least([program, "twin", path, "jam0", "200", "100", BUDGET], [program, "twin", path, "jam0", "200", "1", BUDGET])
-    print(f"| `twin`, 200 steps, AFTER 100 | {seconds:.3f} s, {memory:.0f} MiB | AFTER 1: {empty:.0f} MiB | {(memory - empty) * 2**20 / literals:.1f} bytes a literal, which takes 8 itself | 10.4 |", flush=True)
+    print(f"| `twin`, 200 steps, AFTER 100 | {seconds:.3f} s, {memory:.0f} MiB | AFTER 1: {empty:.0f} MiB | {(memory - empty) * 2**20 / literals:.1f} bytes a literal, which takes 4 itself | 10.4 |", flush=True)
 
 
 ROWS = {"check": check_rows, "trace": trace_rows, "ask": ask_rows, "labels": label_rows, "model": model_rows, "verdicts": verdict_rows, "cheapest": cheapest_rows, "twin": twin_rows}

@@ -11,9 +11,9 @@ output must be whole replies: nothing, or of a session the replies to some of it
 
 A new command is a line in ROWS, once a case of files has it.
 
-On 1 December 2026, with the proved program: 15,202 runs of 27 commands, none wrong. 14,806 ended with status 9, and 396 answered as if
-nothing had been refused. `diagnose` asks for memory 298 times on a valve that tripped (2 steps) and 494 times on one that tripped again (5 steps), a `session`
-of three questions 372 times, `cheapest` (3 steps) 355, `verdicts` on three fault events 329, `proof` 315, `cnf` 290, `twin` (2 steps) 197, `replay` 134 and `check` of two steps 29 times.
+On 2 December 2026, with the proved program: 14,316 runs of 27 commands, none wrong. 14,012 ended with status 9, and 304 answered as if
+nothing had been refused. `diagnose` asks for memory 268 times on a valve that tripped (2 steps) and 461 times on one that tripped again (5 steps), a `session`
+of three questions 345 times, `cheapest` (3 steps) 325, `verdicts` on three fault events 303, `proof` 285, `cnf` 260, `twin` (2 steps) 191, `replay` 134 and `check` of two steps 29 times.
 """
 import os
 import re
