@@ -56,30 +56,30 @@ So the program takes 0.54 of the library's seconds over all families, 0.5 and 0.
 The worst answered ones are a protection's line (5.3; late within twice the steps, where the library takes 6 seconds) and a torus in blocks (2.5). First runs have 1.5 times the least number of faults in all (4.4 before), and 1.84 times in the geometric mean. Memory is 1.01 of what it was in the mean of the families; it follows the clauses that are learnt, so single questions take up to 1.9 times as much.
 An empty log of 45 components within 1,000 steps, nearly as large as a question may be, takes no clause, 1.1 seconds and 375 MiB: by a profile nearly all of this is spent on the writing of the formula, and 2 % on watches.
 
-About refined models, as the program of the end of that day answers (of commit 2fec7321, proved; what the guards of a log imply no longer stands in learnt clauses), in one run with --refined and --seconds of ten minutes, on one of four processors, the others busy:
+About refined models, as the program of the next day answers (of commit e4e1fcbf, proved: what the guards of a log imply no longer stands in learnt clauses, literals take four bytes, and clauses of two aren't read), in one run with --refined and --seconds of ten minutes, on one of four processors, with the gate on the others:
 
 | Family | Questions | As written, seconds to CaDiCaL's library's | the worst | Refined, to the library's about the model as written | the worst | Refined, to as written | the worst |
 |---|---|---|---|---|---|---|---|
-| empty log | 5 | 0.24 | 0.31 | 0.30 | 0.43 | 1.25 | 1.41 |
-| torus, whole order | 6 | 0.78 | 1.29 | 0.07 | 0.17 | 0.09 | 0.28 |
-| torus, order of each component | 6 | 0.64 | 1.74 | 0.08 | 0.43 | 0.13 | 0.25 |
-| torus, order of blocks | 6 | 0.84 | 1.84 | 0.15 | 0.38 | 0.08 | 0.22 |
-| telecom | 12 | 0.76 | 1.27 | 0.30 | 0.84 | 0.39 | 1.29 |
-| protection | 13 | 0.97 | 3.17 | 1.15 | 4.21 | 1.21 | 1.66 |
-| adder | 5 | 0.91 | 1.56 | 0.34 | 0.52 | 0.38 | 0.66 |
-| alignments | 11 | 1.46 | 2.69 | 0.42 | 2.74 | 0.29 | 1.31 |
-| two devices | 3 | 1.78 | 1.78 | 2.01 | 2.01 | 1.13 | 1.13 |
-| hidden wires | 3 | 0.93 | 1.22 | 0.99 | 1.26 | 1.06 | 1.16 |
-| units | 13 | 0.33 | 0.45 | 0.34 | 0.46 | 0.99 | 1.09 |
-| valves | 3 | 0.14 | 0.23 | 0.15 | 0.23 | 1.03 | 1.06 |
-| stations | 4 | 0.66 | 0.93 | 0.19 | 0.28 | 0.29 | 0.31 |
-| meshes | 3 | 0.69 | 1.38 | 0.55 | 1.21 | 0.79 | 1.09 |
-| equal alarms | 3 | 0.50 | 0.85 | 0.48 | 0.78 | 0.96 | 1.00 |
-| lamps | 5 | 0.14 | 0.22 | 0.13 | 0.24 | 0.95 | 1.08 |
-| grids | 22 | 1.20 | 5.10 | 0.21 | 0.87 | 0.17 | 1.10 |
-| all | 123 | 0.63 | | 0.31 | | 0.46 | |
+| empty log | 5 | 0.12 | 0.17 | 0.15 | 0.21 | 1.29 | 1.43 |
+| torus, whole order | 6 | 0.78 | 1.25 | 0.07 | 0.15 | 0.09 | 0.28 |
+| torus, order of each component | 6 | 0.58 | 1.75 | 0.05 | 0.09 | 0.13 | 0.29 |
+| torus, order of blocks | 6 | 0.71 | 1.19 | 0.13 | 0.34 | 0.08 | 0.19 |
+| telecom | 12 | 0.64 | 0.85 | 0.23 | 0.64 | 0.36 | 1.21 |
+| protection | 14 | 0.93 | 3.25 | 1.09 | 3.47 | 1.17 | 1.74 |
+| adder | 5 | 0.77 | 1.52 | 0.24 | 0.37 | 0.32 | 0.59 |
+| alignments | 11 | 1.39 | 3.25 | 0.39 | 2.28 | 0.28 | 1.26 |
+| two devices | 3 | 2.16 | 2.16 | 2.26 | 2.26 | 1.05 | 1.05 |
+| hidden wires | 3 | 0.93 | 1.15 | 0.93 | 1.14 | 1.00 | 1.01 |
+| units | 13 | 0.34 | 0.39 | 0.31 | 0.39 | 0.97 | 1.12 |
+| valves | 3 | 0.15 | 0.28 | 0.15 | 0.26 | 1.05 | 1.15 |
+| stations | 4 | 0.63 | 1.01 | 0.19 | 0.29 | 0.30 | 0.35 |
+| meshes | 3 | 0.56 | 0.83 | 0.42 | 0.76 | 0.76 | 0.92 |
+| equal alarms | 4 | 0.47 | 0.83 | 0.45 | 0.76 | 0.96 | 1.00 |
+| lamps | 5 | 0.13 | 0.24 | 0.12 | 0.24 | 0.99 | 1.00 |
+| grids | 22 | 1.07 | 4.51 | 0.18 | 0.92 | 0.17 | 1.19 |
+| all | 125 | 0.56 | | 0.26 | | 0.46 | |
 
-Two more questions, of a protection and of equal alarms, were answered about neither model and stand in none of these means. As written five grids in the order of each component were late, refined none: they took 0.2 to 3.8 seconds, where the library takes 3.9 to 16 and is late on the last. Where alarms leave nothing to guess, or nothing is seen, the further components are only more to write: empty logs and protections take a fifth longer.
+One question of a protection and one of equal alarms are late about both models; the library isn't timed where no run is known. As written five grids in the order of each component are late, refined none: they take 0.2 to 4.5 seconds, where the library takes 4.4 to 20 and is late on the last. Where alarms leave nothing to guess, or nothing is seen, the further components are only more to write: empty logs take a quarter longer and protections a sixth.
 
 What stays dear are more steps than a log needs. With 1.5 times and twice as many steps it takes so many times as many clauses (and twenty more, in geometric means over the questions that were answered): units 2.2 and 2.6, grids 2.8, protection 5.6 and 12, telecom 9.9 and 35, torus 24 and 48 in
 the whole order, 7 and 46 in that of each component, 17 and 107 in blocks; meshes 0.9. bench/NOTES.md says what was tried against that.
