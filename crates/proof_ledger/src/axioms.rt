@@ -16,7 +16,7 @@ impl Ledger {
         if self.entries() > 0 {
             return self.add_each(&clauses);
         }
-        *self = Ledger::of_axioms(self.alloc(), clauses)?;
+        *self = Ledger::of_axioms(self.alloc, clauses)?;
         Ok(())
     }
 

@@ -22,7 +22,7 @@ pub enum Origin {
 
 /// A valid book, with room that was reserved for more clauses.
 pub struct Ledger {
-    alloc: Global,
+    pub(crate) alloc: Global,
     clauses: Clauses,
     hints: Pieces<ClauseId>,
     entries: Vec<KeptEntry>,
@@ -95,11 +95,6 @@ impl Ledger {
             entries,
             truths: Truths::new(alloc),
         })
-    }
-
-    // The allocator that the book was begun with.
-    pub(crate) fn alloc(&self) -> Global {
-        self.alloc
     }
 
     /// Begins an empty book, with no room.
