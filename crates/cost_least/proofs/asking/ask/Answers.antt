@@ -1,14 +1,9 @@
-use Rattle.std.proofs.Common.{◌≤◌, arith, subst, sym}
-use Rattle.des_base.specs.declared.TheConstants.{MOST_STEPS}
-use Rattle.step_encode.specs.Coded.{CodedSteps}
+use Rattle.std.proofs.Common.{arith}
 use Rattle.cost_least.proofs.Answering.{shown_explained, shown_refuted, shown_run, shown_spent}
 use Rattle.cost_least.proofs.Finding.{model_alone}
 use Rattle.cost_least.proofs.Weighed.{belongs_still}
 use Rattle.des_base.proofs.Results.{on_err}
 use Rattle.cost_least.proofs.asking.ask.Goals as goal
-
-pub solve-requires-clause-weighed : goal.solve-requires-clause-weighed
-solve-requires-clause-weighed g c = (c.requires.asked.cost, c.requires.asked.weighed)
 
 pub returns-in-Unsat-clause-asked : goal.returns-in-Unsat-clause-asked
 returns-in-Unsat-clause-asked g c = λ cost answered weighed.
@@ -19,12 +14,6 @@ pub returns-in-Spent-clause-asked : goal.returns-in-Spent-clause-asked
 returns-in-Spent-clause-asked g c = λ cost answered weighed.
     shown_spent _ _ cost c.solve.new.parts c.args.question.scale _ _ c.args.within _ _ _ _ _ (c.solve.ensures.goes_on.still cost weighed) (belongs_still _ _ c.args.parts.now c.solve.new.parts c.solve.ensures.goes_on.kept c.requires.belong)
     c.is_built.ensures.network c.is_whole.ensures.whole.valid c.has_guards.ensures.guards c.requires.bound c.in_ok-answer.ensures.solved c.in-Spent.is
-
-pub found_run-requires-clause-belong : goal.found_run-requires-clause-belong
-found_run-requires-clause-belong g c = belongs_still _ _ c.args.parts.now c.solve.new.parts c.solve.ensures.goes_on.kept c.requires.belong
-
-pub found_run-requires-clause-steps : goal.found_run-requires-clause-steps
-found_run-requires-clause-steps g c = subst (λ (s : CodedSteps). s.steps ≤ MOST_STEPS) (sym c.solve.ensures.goes_on.kept.step) c.requires.steps
 
 pub found_run-requires-clause-values : goal.found_run-requires-clause-values
 found_run-requires-clause-values g c =
@@ -38,9 +27,6 @@ pub found_run-requires-clause-true_there : goal.found_run-requires-clause-true_t
 found_run-requires-clause-true_there g c =
     shown_run _ _ c.requires.asked.cost c.solve.new.parts c.args.question.scale _ _ c.args.within _ _ _ _ _ (c.solve.ensures.goes_on.still c.requires.asked.cost c.requires.asked.weighed) (belongs_still _ _ c.args.parts.now c.solve.new.parts c.solve.ensures.goes_on.kept c.requires.belong)
     c.is_built.ensures.network c.is_whole.ensures.whole.valid c.has_guards.ensures.guards c.requires.bound c.in_ok-answer.ensures.solved c.in-Sat.is
-
-pub returns-in_ok-found_run-in-Sat-clause-given : goal.returns-in_ok-found_run-in-Sat-clause-given
-returns-in_ok-found_run-in-Sat-clause-given g c = c.in_ok-found_run-in-Sat.ensures.given
 
 pub returns-in_ok-found_run-in-Sat-clause-asked : goal.returns-in_ok-found_run-in-Sat-clause-asked
 returns-in_ok-found_run-in-Sat-clause-asked g c = λ cost answered weighed.

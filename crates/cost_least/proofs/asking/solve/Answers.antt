@@ -1,12 +1,8 @@
 use Rattle.std.proofs.lemmas.Result.{on_err_weaker}
-use Rattle.des_base.proofs.Results.{on_err}
 use Rattle.cost_least.proofs.Answering.{can_search, solved}
-use Rattle.sat_solve.proofs.Leaving.{learnt_alone, nothing_put}
-use Rattle.cost_least.proofs.Weighed.{goes_by_search, goes_none}
+use Rattle.sat_solve.proofs.Leaving.{learnt_alone}
+use Rattle.cost_least.proofs.Weighed.{goes_by_search}
 use Rattle.cost_least.proofs.asking.solve.Goals as goal
-
-pub returns-in_err-assumed-clause-goes_on : goal.returns-in_err-assumed-clause-goes_on
-returns-in_err-assumed-clause-goes_on g c = goes_none _ _ c.args.parts.now c.args.question.scale c.args.book.now.entries c.args.budget.now
 
 pub solve-requires : goal.solve-requires
 solve-requires g c =
@@ -18,9 +14,6 @@ returns-clause-goes_on g c = goes_by_search _ _ c.args.parts.now c.args.question
 
 pub returns-clause-solved : goal.returns-clause-solved
 returns-clause-solved g c = solved _ _ _ _ _ _ _ _ c.solve.result c.as_slice.ensures.value c.in_ok-assumed.ensures c.requires.weighed.1.known c.solve.ensures.searched c.solve.ensures.put c.solve.ensures.answer
-
-pub returns-in_err-assumed-clause-quit : goal.returns-in_err-assumed-clause-quit
-returns-in_err-assumed-clause-quit g c = on_err _ _ (nothing_put c.args.book.now.entries)
 
 pub returns-clause-quit : goal.returns-clause-quit
 returns-clause-quit g c = on_err_weaker c.solve.result (learnt_alone c.args.book.now.entries c.solve.new.book.entries) c.solve.ensures.quit

@@ -1,15 +1,12 @@
-use Rattle.std.proofs.Common.{◌≤◌, ◌∙◌, ◌+◌, List, ap, inl, inr, subst, sym}
+use Rattle.std.proofs.Common.{◌∙◌, ◌+◌, List, ap, inr, subst, sym}
 use Rattle.des_base.proofs.Results.{on_err}
-use Rattle.des_base.specs.declared.TheConstants.{MOST_STEPS}
 use Rattle.event_costs.specs.declared.TheConstants.{MOST_COST}
-use Rattle.least_faults.proofs.Closing.{grown_closed, grown_not, marked_ready}
+use Rattle.least_faults.proofs.Closing.{grown_closed, marked_ready}
 use Rattle.least_faults.specs.Growing.{HasGrownWithin}
 use Rattle.proof_ledger.specs.Book.{axioms_of}
 use Rattle.proof_ledger.specs.Kept.{LedgerState}
 use Rattle.prop_core.specs.Clauses.{Clause}
-use Rattle.step_encode.specs.Coded.{CodedSteps}
-use Rattle.cost_least.proofs.Finding.{answered, grown_weighed, grown_searched, left_open}
-use Rattle.cost_least.proofs.Weighed.{belongs_still, keeps_same, keeps_both}
+use Rattle.cost_least.proofs.Finding.{answered, grown_searched, left_open}
 use Rattle.cost_least.specs.Searching.{LeavesUnpriced, asked_of}
 use Rattle.cost_least.specs.Weighed.{AreWeighedParts}
 use Rattle.cost_least.proofs.searching.cheapest.Goals as goal
@@ -18,32 +15,6 @@ use Rattle.sat_solve.proofs.Leaving.{finals_left}
 
 pub weigh-requires-clause-ready : goal.weigh-requires-clause-ready
 weigh-requires-clause-ready g c = marked_ready _ _ c.args.parts.now 0 c.args.book.now.entries c.put_mark.new.self.entries (ap (λ (b : LedgerState). b.entries) c.in_ok-put_mark.ensures.added) c.requires.ready
-
-pub search-requires-clause-belong : goal.search-requires-clause-belong
-search-requires-clause-belong g c = belongs_still c.args.net.now c.args.log.now c.args.parts.now c.weigh.new.parts c.weigh.ensures.kept c.requires.belong
-
-pub search-requires-clause-steps : goal.search-requires-clause-steps
-search-requires-clause-steps g c = subst (λ (s : CodedSteps). s.steps ≤ MOST_STEPS) (sym c.weigh.ensures.kept.step) c.requires.steps
-
-pub returns-in_err-put_mark-clause-kept : goal.returns-in_err-put_mark-clause-kept
-returns-in_err-put_mark-clause-kept g c = keeps_same c.args.parts.now
-
-pub returns-in_err-cheap-clause-kept : goal.returns-in_err-cheap-clause-kept
-returns-in_err-cheap-clause-kept g c = keeps_both c.args.parts.now c.weigh.new.parts c.search.new.parts c.weigh.ensures.kept c.search.ensures.goes_on.kept
-
-pub returns-in_err-put_mark-2-clause-kept : goal.returns-in_err-put_mark-2-clause-kept
-returns-in_err-put_mark-2-clause-kept g c = keeps_both c.args.parts.now c.weigh.new.parts c.search.new.parts c.weigh.ensures.kept c.search.ensures.goes_on.kept
-
-pub returns-clause-kept : goal.returns-clause-kept
-returns-clause-kept g c = keeps_both c.args.parts.now c.weigh.new.parts c.search.new.parts c.weigh.ensures.kept c.search.ensures.goes_on.kept
-
-pub returns-in_err-put_mark-clause-grown : goal.returns-in_err-put_mark-clause-grown
-returns-in_err-put_mark-clause-grown g c =
-    subst (λ (b : LedgerState). HasGrownWithin c.args.budget c.args.book.now.entries b.entries) (sym c.in_err-put_mark.ensures.err) (grown_not c.args.budget c.args.book.now.entries)
-
-pub returns-in_err-scale-clause-grown : goal.returns-in_err-scale-clause-grown
-returns-in_err-scale-clause-grown g c =
-    grown_weighed c.args.budget c.args.book.now.entries c.put_mark.new.self.entries c.weigh.new.book.entries (ap (λ (b : LedgerState). b.entries) c.in_ok-put_mark.ensures.added) c.weigh.ensures.axioms
 
 pub returns-in_err-cheap-clause-grown : goal.returns-in_err-cheap-clause-grown
 returns-in_err-cheap-clause-grown g c =
@@ -76,12 +47,6 @@ returns-clause-answered g c =
     }
 
 -- ---- without an answer
-
-pub returns-in_err-put_mark-clause-unanswered : goal.returns-in_err-put_mark-clause-unanswered
-returns-in_err-put_mark-clause-unanswered g c = on_err _ _ (inl (ap (λ (b : LedgerState). b.entries) c.in_err-put_mark.ensures.err))
-
-pub returns-in_err-scale-clause-unanswered : goal.returns-in_err-scale-clause-unanswered
-returns-in_err-scale-clause-unanswered g c = on_err _ _ (inr (inl (c.in_err-scale.ensures.unweighed ∙ ap (λ (b : LedgerState). b.entries) c.in_ok-put_mark.ensures.added)))
 
 pub returns-in_err-cheap-clause-unanswered : goal.returns-in_err-cheap-clause-unanswered
 returns-in_err-cheap-clause-unanswered g c =

@@ -1,19 +1,11 @@
-use Rattle.std.proofs.Common.{◌≤◌, arith, subst, sym}
+use Rattle.std.proofs.Common.{arith}
 use Rattle.des_base.proofs.Results.{on_err}
-use Rattle.des_base.specs.declared.TheConstants.{MOST_STEPS}
-use Rattle.step_encode.specs.Coded.{CodedSteps}
 use Rattle.cost_least.proofs.Rounds.{come_further, come_lower, come_to_none, come_to_spent, come_with_better, ends_cheapest, ends_dear, ends_undecided, quits_at}
-use Rattle.cost_least.proofs.Weighed.{belongs_still, goes_both}
+use Rattle.cost_least.proofs.Weighed.{goes_both}
 use Rattle.cost_least.proofs.searching.halve.Goals as goal
 
 pub loop-lo-init : goal.loop-lo-init
 loop-lo-init g c = come_to_none _ _ _ c.args.costs.now.cost _ _ c.args.parts.now c.args.question.scale c.args.book.now.entries c.args.budget.now c.args.known c.requires.known c.requires.counted
-
-pub ask-requires-clause-belong : goal.ask-requires-clause-belong
-ask-requires-clause-belong g c = belongs_still c.args.question.net.now c.args.question.log.now c.args.parts.now c.loop-lo.parts c.loop-lo.invariant.goes.kept c.requires.belong
-
-pub ask-requires-clause-steps : goal.ask-requires-clause-steps
-ask-requires-clause-steps g c = subst (λ (s : CodedSteps). s.steps ≤ MOST_STEPS) (sym c.loop-lo.invariant.goes.kept.step) c.requires.steps
 
 pub ask-requires-clause-asked : goal.ask-requires-clause-asked
 ask-requires-clause-asked g c = let own = c.requires.asked in record { cost = own.cost; answered = own.answered; others = own.others; weighed = c.loop-lo.invariant.goes.still own.cost own.weighed }
@@ -54,9 +46,6 @@ returns-in-Spent-clause-found g c =
     ends_undecided _ _ _ c.args.costs.now.cost _ _ c.args.parts.now c.args.question.scale c.args.book.now.entries c.args.budget.now c.requires.belong c.is_built.ensures.network c.is_whole.ensures.whole.valid c.has_guards.ensures.guards
     c.loop-lo.parts c.ask.new.parts _ _ _ _ _ _ _ _ c.loop-lo.invariant c.ask.ensures.goes_on c.in_ok-asked.ensures.asked c.in-Spent.is c.is_valid.ensures (omega (arith, test, most)) c.middle-b.ensures
 
-pub returns-then-best-gt-MOST_COST-clause-goes_on : goal.returns-then-best-gt-MOST_COST-clause-goes_on
-returns-then-best-gt-MOST_COST-clause-goes_on g c = c.loop-lo.invariant.goes
-
 pub returns-then-best-gt-MOST_COST-clause-found : goal.returns-then-best-gt-MOST_COST-clause-found
 returns-then-best-gt-MOST_COST-clause-found g c =
     let end = c.loop-lo-test.false in
@@ -64,9 +53,6 @@ returns-then-best-gt-MOST_COST-clause-found g c =
     let side = c.if-best-gt-MOST_COST.true in
     λ cost answered weighed. ends_dear _ _ _ c.args.costs.now.cost _ _ c.args.parts.now c.args.question.scale c.args.book.now.entries c.args.budget.now c.requires.belong c.is_built.ensures.network c.is_whole.ensures.whole.valid c.has_guards.ensures.guards
     c.loop-lo.parts _ _ _ _ c.loop-lo.invariant (omega (arith, end, most)) cost answered weighed (omega (arith, side))
-
-pub returns-else-best-gt-MOST_COST-clause-goes_on : goal.returns-else-best-gt-MOST_COST-clause-goes_on
-returns-else-best-gt-MOST_COST-clause-goes_on g c = c.loop-lo.invariant.goes
 
 pub returns-else-best-gt-MOST_COST-clause-found : goal.returns-else-best-gt-MOST_COST-clause-found
 returns-else-best-gt-MOST_COST-clause-found g c =

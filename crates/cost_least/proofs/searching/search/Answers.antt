@@ -1,13 +1,11 @@
-use Rattle.std.proofs.Common.{◌≤◌, ◌+◌, ℕ, subst, sym}
+use Rattle.std.proofs.Common.{◌+◌, ℕ, subst}
 use Rattle.std.proofs.lemmas.Result.{IfOk-weaker as ok_weaker, on_err_weaker}
 use Rattle.des_base.proofs.Results.{on_err}
-use Rattle.des_base.specs.declared.TheConstants.{MOST_STEPS}
 use Rattle.event_costs.specs.StoredCosts.{GivesCosts}
 use Rattle.event_costs.specs.declared.TheConstants.{MOST_COST}
 use Rattle.proof_ledger.specs.Book.{axioms_of}
-use Rattle.step_encode.specs.Coded.{CodedSteps}
 use Rattle.cost_least.proofs.Rounds.{ends_absent, ends_later, ends_unknown, known_counted, quits_later}
-use Rattle.cost_least.proofs.Weighed.{belongs_still, goes_both}
+use Rattle.cost_least.proofs.Weighed.{goes_both}
 use Rattle.cost_least.specs.Asking.{IsGiven}
 use Rattle.cost_least.specs.Searching.{HasFoundCost, HasRefusedCosts, asked_of}
 use Rattle.cost_least.specs.Weighed.{AreWeighed}
@@ -24,12 +22,6 @@ pub returns-in-Spent-clause-found : goal.returns-in-Spent-clause-found
 returns-in-Spent-clause-found g c =
     λ cost answered weighed. ends_unknown _ _ (goal.C-post g) c.args.costs.now.cost _ _ c.args.parts.now c.args.question.scale c.args.book.now.entries c.args.budget.now c.requires.belong c.is_built.ensures.network c.is_whole.ensures.whole.valid c.has_guards.ensures.guards
     c.ask.new.parts _ _ _ c.ask.ensures.goes_on c.in_ok-ask.ensures.asked cost answered weighed c.in-Spent.is
-
-pub halve-requires-clause-belong : goal.halve-requires-clause-belong
-halve-requires-clause-belong g c = belongs_still c.args.question.net.now c.args.question.log.now c.args.parts.now c.ask.new.parts c.ask.ensures.goes_on.kept c.requires.belong
-
-pub halve-requires-clause-steps : goal.halve-requires-clause-steps
-halve-requires-clause-steps g c = subst (λ (s : CodedSteps). s.steps ≤ MOST_STEPS) (sym c.ask.ensures.goes_on.kept.step) c.requires.steps
 
 pub halve-requires-clause-asked : goal.halve-requires-clause-asked
 halve-requires-clause-asked g c = let own = c.requires.asked in record { cost = own.cost; answered = own.answered; others = own.others; weighed = c.ask.ensures.goes_on.still own.cost own.weighed }

@@ -3,9 +3,7 @@ use Rattle.sat_solve.proofs.Freshness.{known_after}
 use Rattle.prop_core.specs.ClauseStore.{ClauseStore}
 use Rattle.sat_order.specs.Rank.{IsRanked}
 use Rattle.sat_solve.specs.Solving.{SolverState}
-use Rattle.sat_solve.specs.Leaving.{AddsAxioms}
-use Rattle.least_faults.proofs.AxiomLists.{adds_none}
-use Rattle.cost_least.proofs.Weighed.{parts_weighed, adds_pushed, keeps_same}
+use Rattle.cost_least.proofs.Weighed.{parts_weighed, adds_pushed}
 use Rattle.cost_least.proofs.Writing.{are_written, adoptable}
 use Rattle.cost_least.proofs.weighing.write_scale.Goals as goal
 
@@ -56,27 +54,3 @@ returns-clause-weighed g c = λ cost weighted.
       enough = omega (arith, values, vars, count, next);
       ranked = subst (IsRanked _ _) (sym (ap (λ (s : SolverState _). s.order) c.adopt.ensures.value)) (c.reserve-2.ensures.ranked c.requires.ready.ranked);
     }
-
-pub returns-in_err-reserve-clause-kept : goal.returns-in_err-reserve-clause-kept
-returns-in_err-reserve-clause-kept g c = keeps_same c.args.parts.now
-
-pub returns-in_err-reserve-2-clause-kept : goal.returns-in_err-reserve-2-clause-kept
-returns-in_err-reserve-2-clause-kept g c = record { step = refl; code = refl; counter = refl; rank = c.reserve-2.ensures.rank }
-
-pub returns-in_err-scale-clause-kept : goal.returns-in_err-scale-clause-kept
-returns-in_err-scale-clause-kept g c = record { step = refl; code = refl; counter = refl; rank = c.reserve-2.ensures.rank }
-
-pub returns-clause-kept : goal.returns-clause-kept
-returns-clause-kept g c = record { step = refl; code = refl; counter = refl; rank = ap (λ (s : SolverState _). s.order.rank) c.adopt.ensures.value ∙ c.reserve-2.ensures.rank }
-
-pub returns-in_err-reserve-clause-axioms : goal.returns-in_err-reserve-clause-axioms
-returns-in_err-reserve-clause-axioms g c = subst (AddsAxioms c.args.book.now.entries) (sym c.reserve.ensures.same) (adds_none c.args.book.now.entries)
-
-pub returns-in_err-reserve-2-clause-axioms : goal.returns-in_err-reserve-2-clause-axioms
-returns-in_err-reserve-2-clause-axioms g c = subst (AddsAxioms c.args.book.now.entries) (sym c.reserve.ensures.same) (adds_none c.args.book.now.entries)
-
-pub returns-in_err-scale-clause-axioms : goal.returns-in_err-scale-clause-axioms
-returns-in_err-scale-clause-axioms g c = subst (AddsAxioms c.args.book.now.entries) (sym c.reserve.ensures.same) (adds_none c.args.book.now.entries)
-
-pub returns-clause-axioms : goal.returns-clause-axioms
-returns-clause-axioms g c = adds_pushed c.args.book.now.entries c.reserve.new.self.entries c.push_axioms.new.self.entries c.new.new.out.clauses c.reserve.ensures.same c.push_axioms.ensures

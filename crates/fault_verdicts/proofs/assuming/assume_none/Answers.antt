@@ -5,9 +5,6 @@ use Rattle.fault_verdicts.specs.Asked.{no_step_literals}
 use Rattle.fault_verdicts.specs.Judging.{event_signed}
 use Rattle.step_encode.specs.Coded.{code_grid}
 
-pub returns-clause-ready : goal.returns-clause-ready
-returns-clause-ready g c = (c.requires.ready.0, c.guards_within.ensures.ready c.requires.ready.0 c.requires.ready.1)
-
 pub returns-clause-assumed : goal.returns-clause-assumed
 returns-clause-assumed g c =
     let grid = code_grid c.guards_within.new.parts.step in

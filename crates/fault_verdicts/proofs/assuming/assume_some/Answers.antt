@@ -5,9 +5,6 @@ use Rattle.fault_verdicts.proofs.assuming.assume_some.Goals as goal
 use Rattle.least_faults.proofs.AxiomLists.{adds_both}
 use Rattle.prop_core.specs.declared.lit.Lit.{Lit}
 
-pub returns-in_err-assumed-clause-ready : goal.returns-in_err-assumed-clause-ready
-returns-in_err-assumed-clause-ready g c = let has = c.in_ok-literal.ensures.made in (has.made, c.guards_within.ensures.ready has.made has.ready)
-
 pub returns-in_err-assumed-clause-goes_on : goal.returns-in_err-assumed-clause-goes_on
 returns-in_err-assumed-clause-goes_on g c = goes_both 1 0 1 c.args.parts.now c.in_some_step.new.parts c.guards_within.new.parts (omega arith) c.in_some_step.ensures.goes_on c.guards_within.ensures.goes_on
 

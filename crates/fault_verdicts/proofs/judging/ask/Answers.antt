@@ -1,7 +1,6 @@
 use Rattle.des_base.proofs.Results.{on_err}
 use Rattle.std.proofs.Common.{subst, sym}
 use Rattle.fault_verdicts.proofs.Answered.{shown_open, shown_possible, shown_refuted, shown_true_run, shown_unanswered}
-use Rattle.fault_verdicts.proofs.Going.{belong_on}
 use Rattle.fault_verdicts.proofs.judging.ask.Goals as goal
 use Rattle.fault_verdicts.specs.Judging.{IsVerdictShown}
 use Rattle.sat_solve.proofs.Leaving.{finals_none}
@@ -16,9 +15,6 @@ pub returns-in-Spent-clause-asked : goal.returns-in-Spent-clause-asked
 returns-in-Spent-clause-asked g c =
     shown_open _ _ c.args.parts.now c.solve.new.parts _ _ c.args.k c.args.event c.args.first.now c.has_event-there.result c.args.book.now.entries c.solve.new.book.entries c.args.left.now c.solve.new.left c.in_ok-answer.answer
     c.solve.ensures.goes_on c.requires.belong c.requires.best c.has_event-there.ensures c.is_built.ensures.network c.is_whole.ensures.whole.valid c.requires.known c.in_ok-answer.ensures.solved c.in-Spent.is
-
-pub decode-requires-clause-together : goal.decode-requires-clause-together
-decode-requires-clause-together g c = belong_on c.args.question.net.now c.args.question.log.now 1 c.args.parts.now c.solve.new.parts c.solve.ensures.goes_on c.requires.belong
 
 pub decode-requires-clause-true_there : goal.decode-requires-clause-true_there
 decode-requires-clause-true_there g c =

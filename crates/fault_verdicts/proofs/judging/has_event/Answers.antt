@@ -1,12 +1,9 @@
 use Rattle.std.proofs.Common.{◌≡◌, ◌∙◌, false, true, ap, arith, refl, subst, sym}
 use Rattle.std.proofs.lemmas.List.{take_all}
-use Rattle.fault_verdicts.proofs.Steps.{any_has, has_at, none_next, none_there}
+use Rattle.fault_verdicts.proofs.Steps.{any_has, has_at, none_there}
 use Rattle.fault_verdicts.proofs.judging.has_event.Goals as goal
 use Rattle.fault_verdicts.specs.Judging.{has_this}
 use Rattle.replay.specs.Traced.{event_of}
-
-pub loop-step-preserved : goal.loop-step-preserved
-loop-step-preserved c = none_next c.args.steps.now c.loop-step.step-index c.step-item.result c.args.event c.loop-step-test.true c.step-item.is c.loop-step.invariant (sym c.is_of.ensures ∙ c.if-is_of.false)
 
 pub returns-then-is_of : goal.returns-then-is_of
 returns-then-is_of c = (

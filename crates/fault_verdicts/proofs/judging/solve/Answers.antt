@@ -1,18 +1,11 @@
 use Rattle.des_base.proofs.Results.{on_err}
-use Rattle.std.proofs.Common.{◌≡◌, ◌<◌, true, arith, length, subst, sym}
-use Rattle.des_net.specs.Network.{Net, is_fault}
+use Rattle.std.proofs.Common.{arith}
 use Rattle.fault_verdicts.proofs.Answered.{solved}
 use Rattle.fault_verdicts.proofs.Asking.{can_search}
 use Rattle.fault_verdicts.proofs.Going.{belong_on, goes_both, goes_by_solver, ready_after_search}
 use Rattle.fault_verdicts.proofs.judging.solve.Goals as goal
 use Rattle.std.proofs.lemmas.Result.{on_err_weaker}
 use Rattle.sat_solve.proofs.Leaving.{axioms_no_final, searching_axioms, searching_both, axioms_and_learnt}
-
-pub assume-requires-clause-known : goal.assume-requires-clause-known
-assume-requires-clause-known g c = subst (λ (m : Net). c.args.event < length m.events) (sym c.requires.belong.of_steps) c.requires.known
-
-pub assume-requires-clause-fault : goal.assume-requires-clause-fault
-assume-requires-clause-fault g c = subst (λ (m : Net). is_fault m c.args.event ≡ true) (sym c.requires.belong.of_steps) c.requires.fault
 
 pub solve-requires : goal.solve-requires
 solve-requires g c =

@@ -1,45 +1,18 @@
 use Rattle.des_base.proofs.Results.{on_err}
-use Rattle.std.proofs.Common.{List, ap, inl, subst, sym}
+use Rattle.std.proofs.Common.{List, ap, subst, sym}
 use Rattle.std.specs.Prelude.{Contains}
 use Rattle.fault_verdicts.proofs.Answered.{judged, left_open, unanswered_shown}
-use Rattle.fault_verdicts.proofs.Going.{goes_nowhere, ready_with_mark}
+use Rattle.fault_verdicts.proofs.Going.{ready_with_mark}
 use Rattle.fault_verdicts.proofs.judging.verdict.Goals as goal
-use Rattle.fault_verdicts.specs.Judged.{IsBestRun, IsVerdictOpenAtMost}
+use Rattle.fault_verdicts.specs.Judged.{IsVerdictOpenAtMost}
 use Rattle.fault_verdicts.specs.Judging.{EndsWithoutVerdict, IsVerdictShown}
-use Rattle.fault_verdicts.specs.Ready.{AreReadyForVerdicts}
-use Rattle.least_faults.proofs.Closing.{grown_closed, grown_not, grown_opened}
-use Rattle.least_faults.specs.Growing.{HasGrownWithin}
+use Rattle.least_faults.proofs.Closing.{grown_closed, grown_opened}
 use Rattle.proof_ledger.specs.Kept.{LedgerState}
 use Rattle.replay.specs.Traced.{word_of}
 use Rattle.replay.specs.declared.run.RunStep.{RunStep}
 
 pub ask-requires-clause-ready : goal.ask-requires-clause-ready
 ask-requires-clause-ready g c = ready_with_mark _ _ c.args.parts.now 0 c.args.book.now.entries c.put_mark.new.self.entries (ap (λ (b : LedgerState). b.entries) c.in_ok-put_mark.ensures.added) c.requires.ready
-
-pub ask-requires-clause-best : goal.ask-requires-clause-best
-ask-requires-clause-best g c = subst (IsBestRun c.args.net.now c.args.log.now c.args.parts.now.step.steps c.args.k) (sym c.steps.ensures.steps) c.requires.best
-
-pub returns-in_err-put_mark-clause-goes_on : goal.returns-in_err-put_mark-clause-goes_on
-returns-in_err-put_mark-clause-goes_on g c = goes_nowhere 1 c.args.parts.now
-
-pub returns-in_err-put_mark-clause-ready : goal.returns-in_err-put_mark-clause-ready
-returns-in_err-put_mark-clause-ready g c = subst (λ (b : LedgerState). AreReadyForVerdicts (goal.R-pre g) (goal.R-post g) c.args.parts.now b.entries) (sym c.in_err-put_mark.ensures.err) c.requires.ready
-
-pub returns-in_err-put_mark-clause-grown : goal.returns-in_err-put_mark-clause-grown
-returns-in_err-put_mark-clause-grown g c =
-    subst (λ (b : LedgerState). HasGrownWithin c.args.budget c.args.book.now.entries b.entries) (sym c.in_err-put_mark.ensures.err) (grown_not c.args.budget c.args.book.now.entries)
-
-pub returns-in_err-verdict-clause-grown : goal.returns-in_err-verdict-clause-grown
-returns-in_err-verdict-clause-grown g c =
-    grown_opened c.args.budget c.ask.new.left c.args.book.now.entries c.put_mark.new.self.entries c.ask.new.book.entries (ap (λ (b : LedgerState). b.entries) c.in_ok-put_mark.ensures.added) c.ask.ensures.searching
-
-pub returns-in_err-put_mark-2-clause-ready : goal.returns-in_err-put_mark-2-clause-ready
-returns-in_err-put_mark-2-clause-ready g c = subst (λ (b : LedgerState). AreReadyForVerdicts (goal.R-pre g) (goal.R-post g) c.ask.new.parts b.entries) (sym c.in_err-put_mark-2.ensures.err) c.ask.ensures.ready
-
-pub returns-in_err-put_mark-2-clause-grown : goal.returns-in_err-put_mark-2-clause-grown
-returns-in_err-put_mark-2-clause-grown g c =
-    subst (λ (b : LedgerState). HasGrownWithin c.args.budget c.args.book.now.entries b.entries) (sym c.in_err-put_mark-2.ensures.err)
-    (grown_opened c.args.budget c.ask.new.left c.args.book.now.entries c.put_mark.new.self.entries c.ask.new.book.entries (ap (λ (b : LedgerState). b.entries) c.in_ok-put_mark.ensures.added) c.ask.ensures.searching)
 
 pub returns-clause-ready : goal.returns-clause-ready
 returns-clause-ready g c = ready_with_mark _ _ c.ask.new.parts 1 c.ask.new.book.entries c.put_mark-2.new.self.entries (ap (λ (b : LedgerState). b.entries) c.in_ok-put_mark-2.ensures.added) c.ask.ensures.ready
@@ -54,9 +27,6 @@ returns-clause-judged g c =
     judged c.args.net.now c.args.log.now c.ask.new.parts.step.steps c.args.k c.args.event c.args.budget c.args.first.now c.args.book.now.entries c.put_mark.new.self.entries c.ask.new.book.entries c.put_mark-2.new.self.entries c.in_ok-verdict.verdict
     (ap (λ (b : LedgerState). b.entries) c.in_ok-put_mark.ensures.added) (ap (λ (b : LedgerState). b.entries) c.in_ok-put_mark-2.ensures.added)
     (subst (λ steps. IsVerdictShown c.args.net.now c.args.log.now c.ask.new.parts.step.steps c.args.k c.args.event steps c.args.budget c.put_mark.new.self.entries c.ask.new.book.entries c.in_ok-verdict.verdict) c.steps.ensures.steps c.in_ok-verdict.ensures.asked)
-
-pub returns-in_err-put_mark-clause-unanswered : goal.returns-in_err-put_mark-clause-unanswered
-returns-in_err-put_mark-clause-unanswered g c = on_err _ _ (inl (ap (λ (b : LedgerState). b.entries) c.in_err-put_mark.ensures.err))
 
 pub returns-in_err-verdict-clause-unanswered : goal.returns-in_err-verdict-clause-unanswered
 returns-in_err-verdict-clause-unanswered g c =

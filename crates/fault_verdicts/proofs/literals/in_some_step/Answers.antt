@@ -4,7 +4,7 @@ use Rattle.fault_verdicts.proofs.Ready.{event_clause_below, ready_by_solver}
 use Rattle.fault_verdicts.proofs.literals.in_some_step.Goals as goal
 use Rattle.fault_verdicts.specs.Ready.{AreReadyForVerdicts}
 use Rattle.least_faults.proofs.Columns.{reserved_ready}
-use Rattle.proof_ledger.specs.Book.{axioms_of, clauses_of}
+use Rattle.proof_ledger.specs.Book.{axioms_of}
 use Rattle.prop_core.specs.Clauses.{HasValues}
 use Rattle.sat_order.specs.Rank.{IsRanked}
 use Rattle.sat_solve.specs.Solving.{SolverState}
@@ -27,18 +27,12 @@ returns-in_err-reserve-2-clause-ready g c =
     ) in
     on_err c.from_residual-in_err-reserve-2.result _ still
 
-pub add_clause-requires-clause-adopted : goal.add_clause-requires-clause-adopted
-add_clause-requires-clause-adopted g c = c.reserve-2.ensures.adopted ∙ c.requires.ready.1.beside.adopted_all ∙ ap clauses_of (sym c.reserve.ensures.same)
-
 pub add_clause-requires-clause-below : goal.add_clause-requires-clause-below
 add_clause-requires-clause-below g c =
     let vars = c.in_ok-reserve-2.ensures.ok.vars in
     let count = c.count.ensures.count in
     subst (HasValues c.reserve-2.new.self.vars) (sym (c.as_slice.ensures.value ∙ c.in_ok-clause.ensures))
     (event_clause_below _ _ c.args.parts.now c.args.book.now.entries c.requires.ready.0 c.args.event c.reserve-2.new.self.vars c.requires.ready.1 c.requires.known (omega (arith, vars, count)))
-
-pub add_clause-requires-clause-spare : goal.add_clause-requires-clause-spare
-add_clause-requires-clause-spare g c = let spare = c.in_ok-reserve-2.ensures.ok.spare in omega (arith, spare)
 
 pub returns-clause-axioms : goal.returns-clause-axioms
 returns-clause-axioms g c = adds_one _ _ _ (clause_put _ _ _ _ _ c.reserve.ensures.same (c.as_slice.ensures.value ∙ c.in_ok-clause.ensures) c.add_clause.ensures.added)

@@ -1,7 +1,6 @@
 use Rattle.std.proofs.Common.{arith, sym, subst}
 use Rattle.least_faults.proofs.Assuming.{assumed_alone, assumed_bound}
 use Rattle.least_faults.proofs.AxiomLists.{adds_none}
-use Rattle.least_faults.proofs.Beside.{beside}
 use Rattle.least_faults.proofs.Staying.{question_same}
 use Rattle.least_faults.proofs.asking.assumptions.Goals as goal
 use Rattle.least_faults.proofs.asking.assumptions.Goals.{in-Some+in_ok-bound+in_ok-push, in_default}
@@ -13,9 +12,6 @@ use Rattle.sat_solve.specs.Leaving.{AddsAxioms}
 
 pub returns-in_err-extend_from_slice-clause-kept : goal.returns-in_err-extend_from_slice-clause-kept
 returns-in_err-extend_from_slice-clause-kept g c = question_same c.args.parts.now c.args.book.now.entries
-
-pub bound-requires-clause-ready : goal.bound-requires-clause-ready
-bound-requires-clause-ready g c = beside _ _ c.args.parts.now c.args.book.now.entries c.requires.ready
 
 pub returns-clause-ready : goal.returns-clause-ready
 returns-clause-ready g c = elim c.match-within.branch [

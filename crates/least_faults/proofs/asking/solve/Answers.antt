@@ -1,7 +1,7 @@
 use Rattle.des_base.proofs.Results.{on_err}
 use Rattle.std.proofs.lemmas.Result.{on_err_weaker}
 use Rattle.least_faults.proofs.Asked.{goes_by_search}
-use Rattle.least_faults.proofs.Solved.{can_search, solved}
+use Rattle.least_faults.proofs.Solved.{can_search}
 use Rattle.least_faults.proofs.asking.solve.Goals as goal
 use Rattle.sat_solve.proofs.Leaving.{axioms_no_final, searching_axioms, axioms_and_learnt}
 
@@ -20,11 +20,6 @@ solve-requires g c =
 pub returns-clause-goes_on : goal.returns-clause-goes_on
 returns-clause-goes_on g c =
     goes_by_search _ _ c.args.parts.now c.assumptions.new.parts c.solve.new.self _ _ c.args.book.now.entries c.assumptions.new.book.entries _ c.assumptions.ensures.ready c.assumptions.ensures.kept c.assumptions.ensures.axioms c.solve.ensures.searched c.solve.ensures.adopted c.solve.ensures.kept
-
-pub returns-clause-solved : goal.returns-clause-solved
-returns-clause-solved g c =
-    solved c.args.parts.now.counter c.assumptions.new.parts c.solve.new.self c.args.within _ _ _ _ _ _ _ c.solve.result c.in_ok-assumed.ensures.assumed c.as_slice.ensures.value c.assumptions.ensures.axioms c.assumptions.ensures.none c.assumptions.ensures.ready.known c.solve.ensures.searched c.solve.ensures.put
-    c.solve.ensures.answer
 
 pub returns-in_err-assumed-clause-quit : goal.returns-in_err-assumed-clause-quit
 returns-in_err-assumed-clause-quit g c = on_err _ _ (axioms_no_final c.args.book.now.entries c.assumptions.new.book.entries c.assumptions.ensures.axioms)

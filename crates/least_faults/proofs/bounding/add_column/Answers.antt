@@ -1,6 +1,6 @@
 use Rattle.std.proofs.Common.{ap, arith, length, ◌∙◌, [], ◌∷◌, refl, subst, sym}
 use Rattle.card_counter.specs.CounterState.{CounterState}
-use Rattle.least_faults.proofs.Columns.{column_added, column_fits, few_written, more_values, written_alone, reserved_ready}
+use Rattle.least_faults.proofs.Columns.{column_added, few_written, more_values, written_alone}
 use Rattle.sat_solve.proofs.Freshness.{known_after}
 use Rattle.least_faults.proofs.Determined.{column_determined}
 use Rattle.least_faults.proofs.Staying.{question_kept}
@@ -10,11 +10,6 @@ use Rattle.sat_solve.specs.Solving.{SolverState}
 use Rattle.least_faults.proofs.bounding.add_column.Goals as goal
 use Rattle.std.specs.List.{range_with_len}
 use Rattle.sat_order.specs.Rank.{IsRanked}
-
-pub add_column-requires-clause-within : goal.add_column-requires-clause-within
-add_column-requires-clause-within g c =
-    let fits = column_fits _ _ _ _ c.requires.ready.coded c.requires.few in
-    omega (arith, fits)
 
 pub push_axioms-requires : goal.push_axioms-requires
 push_axioms-requires g c =
@@ -50,11 +45,6 @@ returns-clause-ready g c =
       enough = omega (arith, values, enough);
       ranked = subst (IsRanked (goal.R-pre g) (goal.R-post g)) (sym (ap (λ (s : SolverState _). s.order) c.adopt.ensures.value)) (c.reserve-2.ensures.ranked c.requires.ready.ranked);
     }
-
-pub returns-in_err-reserve-2-clause-ready : goal.returns-in_err-reserve-2-clause-ready
-returns-in_err-reserve-2-clause-ready g c =
-    let same = ap (λ (s : SolverState _). s.vars) c.in_err-reserve-2.ensures.err.same in
-    reserved_ready _ _ c.args.parts.now c.reserve-2.new.self c.args.book.now.entries c.reserve.new.self.entries c.requires.ready c.reserve-2.ensures.adopted (omega (arith, same)) c.reserve-2.ensures.ranked c.reserve.ensures.same
 
 pub returns-clause-kept : goal.returns-clause-kept
 returns-clause-kept g c = record {

@@ -1,11 +1,8 @@
 use Rattle.std.proofs.Common.{◌∙◌, ◌<◌, refl, length, get_or, arith}
 use Rattle.std.proofs.lemmas.Grind.{common_steps}
 use Rattle.sat_solve.proofs.Places.{place_lost}
-use Rattle.sat_solve.proofs.Taking.{last_waits, last_dropped, first_waits, last_first, first_taken}
+use Rattle.sat_solve.proofs.Taking.{last_waits, first_waits, last_first, first_taken}
 use Rattle.sat_solve.proofs.heap.take_first.Goals as goal
-
-pub returns-then-is_empty-clause-placed : goal.returns-then-is_empty-clause-placed
-returns-then-is_empty-clause-placed c = last_dropped c.args.vars.now c.args.places.now c.args.last c.requires.placed
 
 pub returns-then-is_empty-clause-taken : goal.returns-then-is_empty-clause-taken
 returns-then-is_empty-clause-taken c = (place_lost c.args.places.now c.args.last, last_waits c.args.vars.now c.args.places.now c.args.last c.requires.placed)

@@ -1,7 +1,6 @@
 -- By the list of the fault events.
 use Rattle.std.proofs.Common.{◌∙◌, ap, refl, sym}
 use Rattle.des_net.specs.Network.{Net}
-use Rattle.least_faults.proofs.Closing.{grown_not}
 use Rattle.step_encode.specs.FaultInputs.{fault_events}
 use Rattle.telling.proofs.Taking.{nothing_taken}
 use Rattle.verdict_telling.proofs.Ends.{list_told, none_told}
@@ -19,17 +18,5 @@ pub returns-in-Ok-clause-grown : goal.returns-in-Ok-clause-grown
 returns-in-Ok-clause-grown g c =
     list_grows c.args.teller.now c.put_each.new.teller c.args.net.now c.as_slice.result.now _ _ _ c.put_each.result (c.as_slice.ensures.value ∙ c.in-Ok.ensures) c.put_each.ensures.goes
 
-pub returns-in-Err-clause-grown : goal.returns-in-Err-clause-grown
-returns-in-Err-clause-grown g c = grown_not _ c.args.teller.now.judge.book
-
 pub returns-in-Ok-clause-stays : goal.returns-in-Ok-clause-stays
 returns-in-Ok-clause-stays g c = list_stays c.args.teller.now c.put_each.new.teller c.as_slice.result.now _ _ _ c.put_each.result c.put_each.ensures.goes
-
-pub returns-in-Err-clause-stays : goal.returns-in-Err-clause-stays
-returns-in-Err-clause-stays g c = refl
-
-pub returns-in-Ok-clause-ready : goal.returns-in-Ok-clause-ready
-returns-in-Ok-clause-ready g c = c.put_each.ensures.ready
-
-pub returns-in-Err-clause-ready : goal.returns-in-Err-clause-ready
-returns-in-Err-clause-ready g c = c.requires.ready

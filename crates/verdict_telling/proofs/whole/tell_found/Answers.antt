@@ -1,6 +1,5 @@
 -- By what was found, and the reply that tells it.
 use Rattle.std.proofs.Common.{ℕ, subst}
-use Rattle.inquiries.specs.Begun.{HasAskedWithin, HasQuestion}
 use Rattle.inquiries.specs.Diagnosed.{IsDiagnosed}
 use Rattle.telling.proofs.Taking.{nothing_taken}
 use Rattle.verdict_telling.proofs.Both.{built_still, puts_found, stays_ready}
@@ -30,9 +29,3 @@ pub returns-in-Err-clause-stays : goal.returns-in-Err-clause-stays
 returns-in-Err-clause-stays g c =
     stays_ready (goal.R-pre g) (goal.R-post g) c.args.case.now.net c.args.case.now.log c.args.steps c.args.parts.now c.find_least.new.parts c.find_least.new.book.entries c.requires.time c.find_least.ensures.kept.step c.find_least.ensures.kept.code c.requires.begun.parts_of.belong c.requires.size
     (built_still c.args.case.now.net c.args.case.now.log c.args.parts.now c.find_least.new.parts c.args.book.now.entries c.find_least.new.book.entries c.find_least.ensures.kept c.requires.begun.parts_of.built) c.find_least.ensures.ready
-
-pub returns-in-Ok-clause-left : goal.returns-in-Ok-clause-left
-returns-in-Ok-clause-left g c = subst (λ (n : ℕ). HasQuestion c.args.case.now.net c.args.case.now.log n (HasAskedWithin c.args.budget) c.find_least.new.book.entries) c.requires.time c.find_least.ensures.left
-
-pub returns-in-Err-clause-left : goal.returns-in-Err-clause-left
-returns-in-Err-clause-left g c = subst (λ (n : ℕ). HasQuestion c.args.case.now.net c.args.case.now.log n (HasAskedWithin c.args.budget) c.find_least.new.book.entries) c.requires.time c.find_least.ensures.left

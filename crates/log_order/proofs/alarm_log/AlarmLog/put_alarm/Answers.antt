@@ -70,6 +70,3 @@ pub returns-clause-ok : goal.returns-clause-ok
 returns-clause-ok c =
     let pairs : c.add_number.new.self.pairs ≡ c.self.inside.precedence.pairs = ap (λ (p : Precedence). p.pairs) c.in_ok-number.ensures.ok in
     (λ i. a_log (alarms_are c i) (pairs i)) ∙ ap (λ (log : Log). with_alarm log c.args.id c.args.labels.now (leaves_doubt c.args.certainty)) c.self.view_is
-
-pub returns-clause-place : goal.returns-clause-place
-returns-clause-place c = c.in_ok-number.ensures.place ∙ c.self.invariant.counted ∙ ap (λ (log : Log). length log.alarms) c.self.view_is

@@ -1,10 +1,7 @@
-use Rattle.std.proofs.Common.{◌≡◌, ◌∙◌, ◌+◌, sym, subst, arith, ℕ}
+use Rattle.std.proofs.Common.{◌≡◌, ◌∙◌, ◌+◌, sym, subst, ℕ}
 use Rattle.proof_text.proofs.Fronts.{AreNumbered, numbered_axiom, numbered_entry, numbered_mark}
 use Rattle.proof_text.proofs.refuting.BookFront.numbers.Goals as goal
 use Rattle.proof_text.proofs.refuting.BookFront.numbers.Goals.{in-Axiom+in_ok-push-in-Axiom, in-Learnt+in_ok-push-in-Learnt, in-Mark}
-
-pub overflow_add-axiom : goal.overflow_add-axiom
-overflow_add-axiom c = omega (arith, c.loop-place.invariant.few_axioms, c.requires.from_one, c.requires.room, c.loop-place-test.true)
 
 numbered : (c : goal.Joined-entry) (k n : ℕ) → c.match-entry.axiom ≡ k → c.match-entry.next ≡ n → AreNumbered c.args.first c.args.self.now.book.now.entries (c.loop-place.place + 1) c.match-entry.numbers k n
     → AreNumbered c.args.first c.args.self.now.book.now.entries (c.loop-place.place + 1) c.match-entry.numbers c.match-entry.axiom c.match-entry.next

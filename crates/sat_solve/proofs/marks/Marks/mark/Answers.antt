@@ -1,13 +1,8 @@
-use Rattle.std.proofs.Common.{◌≡◌, ◌∙◌, ◌<◌, ◌≤◌, List, Bool, true, length, get_or, ap, sym, subst, arith}
+use Rattle.std.proofs.Common.{◌≡◌, ◌∙◌, ◌<◌, List, Bool, true, length, get_or, ap, sym, subst, arith}
 use Rattle.std.specs.Prelude.{slice_set}
 use Rattle.std.proofs.lemmas.Grind.{common_steps}
-use Rattle.sat_solve.proofs.Rounds.{marked_set, marked_same, marked_past}
+use Rattle.sat_solve.proofs.Rounds.{marked_set, marked_same}
 use Rattle.sat_solve.proofs.marks.Marks.mark.Goals as goal
-
-pub returns-then-place-len-clause-marked : goal.returns-then-place-len-clause-marked
-returns-then-place-len-clause-marked c =
-    let k : length c.self.inside.rounds.items ≤ c.args.place = let t = c.if-place-len.true in let e = c.len.ensures in grind (arith, common_steps) in
-    subst (λ (bs : List Bool). bs ≡ slice_set bs c.args.place true) c.self.view_is (sym (marked_past c.self.inside.round c.self.inside.rounds.items c.args.place k))
 
 pub returns-then-index-self-clause-marked : goal.returns-then-index-self-clause-marked
 returns-then-index-self-clause-marked c =

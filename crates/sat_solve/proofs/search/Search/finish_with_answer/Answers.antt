@@ -16,16 +16,6 @@ attach-requires-clause-known g c =
     let w = c.requires.sound.serving.enough in
     known_last s.vars c.backtrack-in-Unsat.new.self.propagator.vars s.propagator.clauses c.clauses.result.now.clauses u.clause c.in-Unsat.id (c.clauses.ensures.clauses ∙ u.clauses) (u.numbered ∙ ap length (sym c.clauses.ensures.clauses)) c.requires.sound.serving.below u.known (omega arith)
 
-pub returns-in-Sat-clause-rest : goal.returns-in-Sat-clause-rest
-returns-in-Sat-clause-rest g c =
-    let t = c.backtrack.new.self in
-    rest_sound t.order.waiting t.vars t.spare c.args.self.now.propagator t.propagator c.keep_values.new.assignment c.backtrack.ensures.sound c.backtrack.ensures.trail (let n = c.backtrack.ensures.kept.vars in let e = c.requires.enough in let b = c.keep_values.ensures.room in omega arith)
-
-pub returns-in-Spent-clause-rest : goal.returns-in-Spent-clause-rest
-returns-in-Spent-clause-rest g c =
-    let t = c.backtrack-in-Spent.new.self in
-    rest_sound t.order.waiting t.vars t.spare c.args.self.now.propagator t.propagator c.args.assignment.now c.backtrack-in-Spent.ensures.sound c.backtrack-in-Spent.ensures.trail (let n = c.backtrack-in-Spent.ensures.kept.vars in let e = c.requires.enough in omega arith)
-
 pub returns-in-Unsat-clause-rest : goal.returns-in-Unsat-clause-rest
 returns-in-Unsat-clause-rest g c =
     let s = c.args.self.now in

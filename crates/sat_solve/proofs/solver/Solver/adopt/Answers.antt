@@ -1,9 +1,6 @@
 use Rattle.proof_ledger.specs.Book.{clauses_of}
-use Rattle.sat_solve.proofs.Adopting.{all_wider, known_viewed, front_viewed}
+use Rattle.sat_solve.proofs.Adopting.{all_wider, known_viewed}
 use Rattle.sat_solve.proofs.solver.Solver.adopt.Goals as goal
-
-pub attach_from-requires-clause-grown : goal.attach_from-requires-clause-grown
-attach_from-requires-clause-grown g c = front_viewed c.args.self.now _ (clauses_of c.args.book.now.entries) c.clauses-clauses.result.now.clauses c.self.view_is c.requires.grown c.clauses-clauses.ensures.clauses
 
 pub attach_from-requires-clause-known : goal.attach_from-requires-clause-known
 attach_from-requires-clause-known g c =
