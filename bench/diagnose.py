@@ -107,8 +107,8 @@ START = 7
 BUDGET = 1_000_000
 # Who is asked is ended after so many seconds of the processor.
 LIMIT = 20
-# Clauses are counted where the answer took at most so many seconds, since that asks the question some ten times more.
-COUNTED = 0.5
+# Clauses are counted where the answer took at most so many seconds, since that asks the question some ten times more; and such a call is made so many times more to be timed.
+COUNTED, MORE_TIMES = 0.5, 4
 # The least budget that is tried, but for none.
 FEWEST = 16
 # Ratios of seconds are taken where one of the two took at least so many. The library's may be too few to be told from none.
@@ -192,6 +192,10 @@ def simulated():
     for order in ["whole", "component", "blocks"]:
         for it in slackened("torus of 20, 20 alarms", torus(4, 5), 20, 2, [order], [1, 1.5, 2]):
             yield f"torus, {NAMES[order]}", *it
+        for alarms, faults, seed, steps in [(20, 2, 1, 14), (20, 2, 1, 18), (20, 2, 2, 14), (20, 2, 2, 18), (40, 4, 1, 20)]:
+            needed, model, log = drawn(torus(4, 5), alarms, faults, seed, order)
+            if steps not in [int(needed * slack) for slack in [1, 1.5, 2]]:
+                yield f"torus, {NAMES[order]}", f"torus of 20, {alarms} alarms, {NAMES[order]}, log {seed}", steps, model, log
     for it in slackened("4 stations, 8 faults", telecom(4, 5), 30, 8, ["whole", "component"], [1, 1.5, 2]):
         yield "telecom", *it
     for it in slackened("1 line, 30 alarms", protection(1), 30, 5, ["whole"], [1, 1.5, 2]):
@@ -342,15 +346,20 @@ def ascended(program, path, files, steps, faults):
             with open(formulas[-1], "w", encoding="ascii") as f:
                 subprocess.run([program, "cnf", *files, str(steps), bound], stdout=f, check=True)
         _, _, status, out = timed(path, str(LIMIT), *formulas)
-    return float(out.split()[1]), status == 0
+        seconds = least(float(out.split()[1]), lambda: float(timed(path, str(LIMIT), *formulas)[3].split()[1]))
+    return seconds, status == 0
+
+
+def least(seconds, again):
+    """The least seconds of several calls of the processor, where the first one ended soon: what else the machine does then counts for little."""
+    return min([seconds] + [again() for _ in range(MORE_TIMES if seconds <= COUNTED else 0)])
 
 
 def told(program, files, steps, has_counts):
-    """What one program says of a question. Where it answers soon it is timed a second time, and its clauses are counted."""
+    """What one program says of a question. Where it answers soon its clauses are counted."""
     seconds, memory, line = asked(program, files, steps, BUDGET)
     reply = replies(program, files, steps)
-    if seconds <= COUNTED:
-        seconds = min(seconds, asked(program, files, steps, BUDGET)[0])
+    seconds = least(seconds, lambda: asked(program, files, steps, BUDGET)[0])
     return Told(seconds, memory, line, learnt(reply) if has_counts and seconds <= COUNTED else None, first_run(reply) if has_counts else None)
 
 
