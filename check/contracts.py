@@ -17,8 +17,23 @@ TOP = os.path.dirname(os.path.dirname(os.path.abspath(__file__)))
 # Public functions that only advise, by crate, file and name, and why their callers take any answer. (Private ones say it above them, or at the head of their file.)
 TRIED = "it chooses what a search tries first, and a search is right whatever it tries"
 DROPPED = "it marks literals of a clause that is being learnt, and whoever drops one resolves with its reason, or doesn't drop it"
+WALKED = "it chooses a way along a network and a log; the run at its end is replayed, and given only if it explains the log"
 CHOSEN = "it chooses which components a finer network has besides, or writes its text; that is read, and given only if it is a refinement"
 ADVICE = {
+    ("alignment", "ground.rt", "alarm_of"): WALKED,
+    ("alignment", "ground.rt", "beginnings"): WALKED,
+    ("alignment", "ground.rt", "is_over"): WALKED,
+    ("alignment", "ground.rt", "new"): WALKED,
+    ("alignment", "ground.rt", "next_doubtful"): WALKED,
+    ("alignment", "ground.rt", "parts"): WALKED,
+    ("alignment", "ground.rt", "suits"): WALKED,
+    ("alignment", "leaving.rt", "after"): WALKED,
+    ("alignment", "leaving.rt", "allow"): WALKED,
+    ("alignment", "leaving.rt", "new"): WALKED,
+    ("alignment", "situation.rt", "copy"): WALKED,
+    ("alignment", "tracking.rt", "moves_to"): WALKED,
+    ("alignment", "walk.rt", "go"): WALKED,
+    ("alignment", "walk.rt", "new"): WALKED,
     ("least_faults", "deadlines.rt", "missed_deadlines"): TRIED,
     ("least_faults", "loose.rt", "are_loose"): TRIED,
     ("least_faults", "loose.rt", "push_unpassed"): TRIED,
