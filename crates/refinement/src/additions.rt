@@ -169,6 +169,7 @@ fn add_wanted<R: Rule>(
             states: net.states(comp),
             touching,
             moving: count,
+            changing: changing_of(moving.as_slice(), by_action),
         };
         if rule.wants(&candidate) {
             wanted.push(addition_of(alloc, net, comp, state, moving, count)?)?;
@@ -219,6 +220,17 @@ fn count_of(moving: &[Moving], by_action: &[ListOf<EventId>]) -> usize {
     let mut count: usize = 0;
     for one in moving {
         count = count.saturating_add(events_by(by_action, one.action).len());
+    }
+    count
+}
+
+// How many events may change whether the component is in `yes`.
+fn changing_of(moving: &[Moving], by_action: &[ListOf<EventId>]) -> usize {
+    let mut count: usize = 0;
+    for one in moving {
+        if one.change != FollowerChange::Stay {
+            count = count.saturating_add(events_by(by_action, one.action).len());
+        }
     }
     count
 }

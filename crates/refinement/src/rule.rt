@@ -12,8 +12,10 @@ pub struct Candidate {
     pub states: u32,
     /// How many events touch the component.
     pub touching: usize,
-    /// How many of these would move the component of its own.
+    /// How many of these would move the component of its own: they may change whether the component is in the state, or need that it is.
     pub moving: usize,
+    /// How many of these may change it.
+    pub changing: usize,
 }
 
 /// Says which states get a component of their own.
@@ -22,15 +24,18 @@ pub trait Rule {
     fn wants(&self, candidate: &Candidate) -> bool;
 }
 
-/// Wants each state that few events change: of a component with three states or more, and moved by at most half of the events
-/// that touch it, and by one at least.
+/// Wants each state that few events change: of a component with three states or more, changed by fewer than half of the events
+/// that touch it, and moved by at most half of them, and by one at least.
 #[derive(Clone, Copy)]
 pub struct RarelyChanged;
 
 impl Rule for RarelyChanged {
     fn wants(&self, candidate: &Candidate) -> bool
-        ensures { IsTrue result ↔ (3 ≤ candidate.now.states) × (0 < candidate.now.moving) × (2 * candidate.now.moving ≤ candidate.now.touching) }
+        ensures { IsTrue result ↔ (3 ≤ candidate.now.states) × (0 < candidate.now.moving) × (2 * candidate.now.moving ≤ candidate.now.touching) × (2 * candidate.now.changing < candidate.now.touching) }
     {
-        candidate.states >= 3 && candidate.moving > 0 && candidate.moving <= candidate.touching / 2
+        candidate.states >= 3
+            && candidate.moving > 0
+            && candidate.moving <= candidate.touching / 2
+            && candidate.changing < candidate.touching - candidate.touching / 2
     }
 }

@@ -6,9 +6,9 @@ for name, lamps in ("room.des", 14), ("full.des", 15):
         some = [f"component l{lamp}", "state s init", "trans s on s"]
         lines, finer = lines + some, finer + some
     on = "".join(f" l{lamp}.on" for lamp in range(lamps))
-    events = [f"event go : ring.go{on}", "event go-on : ring.go-on", "event back : ring.back", "event rest : ring.back"]
+    events = [f"event go : ring.go{on}", "event go-on : ring.go-on", "event back : ring.back", "event rest : ring.back", "event wait : ring.back"]
     if name == "room.des":
-        # `b` is entered by `go` and left by `go-on`, two events of four; `a` and `c` are changed by three.
+        # `b` is entered by `go` and left by `go-on`, two events of five; `a` and `c` are changed by four.
         finer += ["component ring-is-b", "state no init", "state yes", "trans no enter yes", "trans yes leave no"]
         finer += [f"event go : ring.go{on} ring-is-b.enter", "event go-on : ring.go-on ring-is-b.leave", *events[2:]]
     else:
