@@ -56,31 +56,31 @@ So the program takes 0.54 of the library's seconds over all families, 0.5 and 0.
 The worst answered ones are a protection's line (5.3; late within twice the steps, where the library takes 6 seconds) and a torus in blocks (2.5). First runs have 1.5 times the least number of faults in all (4.4 before), and 1.84 times in the geometric mean. Memory is 1.01 of what it was in the mean of the families; it follows the clauses that are learnt, so single questions take up to 1.9 times as much.
 An empty log of 45 components within 1,000 steps, nearly as large as a question may be, takes no clause, 1.1 seconds and 375 MiB: by a profile nearly all of this is spent on the writing of the formula, and 2 % on watches.
 
-On 2 December 2026, with --refined and --seconds and every call that ends within half a second made five times, in eight minutes, three processes on a processor each: the proved program (of commit e3eb45eb: what the guards of a log imply no longer stands in learnt clauses, literals take four bytes, clauses of two aren't read, and where most alarms are doubtful a shortest path gives a run beside the first one), a build of commit 82bece88 without its proof as the earlier program, and the library, which is asked about the model as written:
+On 2 December 2026, with --refined and --seconds and every call that ends within half a second made five times, in nine minutes, three processes on a processor each: the proved program (what the guards of a log imply no longer stands in learnt clauses, literals take four bytes, clauses of two aren't read, and where most alarms are doubtful a shortest path gives a run beside the first one), a build of commit 82bece88 without its proof as the earlier program, and the library, which is asked about the model as written:
 
 | Family | Questions | As written, seconds to CaDiCaL's library's | the worst | to the earlier program's | the worst | MiB to the earlier program's | Refined, seconds to the library's | the worst | to as written | the worst | Not answered: as written, earlier, refined, library |
 |---|---|---|---|---|---|---|---|---|---|---|---|
-| empty log | 5 | 0.14 | 0.17 | 0.53 | 0.60 | 0.68 | 0.17 | 0.19 | 1.21 | 1.46 | 0, 0, 0, 0 |
-| torus, whole order | 10 | 0.69 | 1.59 | 0.66 | 1.50 | 0.82 | 0.06 | 0.15 | 0.08 | 0.27 | 1, 1, 0, 1 |
-| torus, order of each component | 10 | 0.61 | 1.38 | 0.74 | 1.72 | 0.78 | 0.02 | 0.08 | 0.04 | 0.28 | 1, 1, 0, 1 |
-| torus, order of blocks | 10 | 0.87 | 2.06 | 1.00 | 7.58 | 1.24 | 0.04 | 0.33 | 0.04 | 0.21 | 1, 1, 0, 1 |
-| telecom | 12 | 0.59 | 1.05 | 0.61 | 1.01 | 0.55 | 0.22 | 0.67 | 0.38 | 1.44 | 0, 1, 0, 0 |
-| protection | 14 | 0.83 | 3.00 | 0.71 | 0.99 | 0.96 | 1.03 | 3.42 | 1.25 | 1.89 | 1, 1, 1, 0 |
-| adder | 5 | 0.79 | 1.52 | 0.92 | 1.18 |  | 0.24 | 0.37 | 0.30 | 0.49 | 0, 0, 0, 0 |
-| alignments | 11 | 0.79 | 3.18 | 0.44 | 1.43 | 0.79 | 0.21 | 1.94 | 0.19 | 1.02 | 0, 0, 0, 0 |
-| two devices | 3 | 2.31 | 2.31 | 0.99 | 0.99 |  | 2.22 | 2.22 | 0.96 | 0.96 | 0, 0, 0, 0 |
-| hidden wires | 3 | 0.97 | 1.63 | 0.79 | 0.96 |  | 0.99 | 1.67 | 1.02 | 1.08 | 0, 0, 0, 0 |
-| units | 13 | 0.29 | 0.35 | 0.67 | 0.98 | 0.83 | 0.28 | 0.38 | 0.97 | 1.09 | 0, 0, 0, 0 |
-| valves | 3 | 0.14 | 0.24 | 0.93 | 0.93 |  | 0.14 | 0.24 | 0.97 | 0.99 | 0, 0, 0, 0 |
-| stations | 4 | 0.66 | 0.92 | 0.98 | 1.23 |  | 0.19 | 0.29 | 0.28 | 0.34 | 0, 0, 0, 0 |
-| meshes | 3 | 0.55 | 0.84 | 0.69 | 0.82 | 0.89 | 0.44 | 0.78 | 0.79 | 1.25 | 0, 0, 0, 0 |
-| equal alarms | 4 | 0.43 | 0.73 | 0.94 | 0.97 | 0.94 | 0.42 | 0.67 | 0.94 | 0.97 | 1, 1, 1, 0 |
-| lamps | 5 | 0.12 | 0.21 | 0.71 | 0.78 | 0.79 | 0.12 | 0.21 | 1.04 | 1.09 | 0, 0, 0, 1 |
-| grids | 22 | 0.98 | 3.50 | 0.60 | 0.98 | 0.79 | 0.17 | 0.92 | 0.18 | 1.27 | 5, 5, 0, 2 |
-| all | 137 | 0.54 | | 0.74 | | 0.83 | 0.22 | | 0.40 | | 10, 11, 2, 6 |
+| empty log | 5 | 0.15 | 0.16 | 0.51 | 0.55 | 0.68 | 0.17 | 0.18 | 1.15 | 1.27 | 0, 0, 0, 0 |
+| torus, whole order | 10 | 0.67 | 1.61 | 0.60 | 1.44 | 0.82 | 0.06 | 0.17 | 0.09 | 0.33 | 1, 1, 0, 1 |
+| torus, order of each component | 10 | 0.63 | 1.48 | 0.73 | 1.60 | 0.78 | 0.02 | 0.10 | 0.04 | 0.26 | 1, 1, 0, 1 |
+| torus, order of blocks | 10 | 0.77 | 1.86 | 1.01 | 6.85 | 1.24 | 0.06 | 0.34 | 0.04 | 0.22 | 1, 1, 0, 1 |
+| telecom | 12 | 0.60 | 1.07 | 0.62 | 1.11 | 0.56 | 0.22 | 0.53 | 0.36 | 0.95 | 0, 1, 0, 0 |
+| protection | 14 | 0.83 | 3.24 | 0.79 | 1.02 | 1.11 | 0.80 | 3.36 | 0.97 | 1.17 | 1, 2, 1, 0 |
+| adder | 5 | 0.76 | 1.46 | 0.93 | 1.05 |  | 0.25 | 0.38 | 0.32 | 0.49 | 0, 0, 0, 0 |
+| alignments | 11 | 0.76 | 3.63 | 0.47 | 1.65 | 0.79 | 0.21 | 1.96 | 0.18 | 1.07 | 0, 0, 0, 0 |
+| two devices | 3 | 1.95 | 1.95 | 0.93 | 0.93 |  | 1.96 | 1.96 | 1.00 | 1.00 | 0, 0, 0, 0 |
+| hidden wires | 3 | 0.80 | 1.03 | 0.79 | 0.86 |  | 0.78 | 0.91 | 0.97 | 1.02 | 0, 0, 0, 0 |
+| units | 13 | 0.29 | 0.41 | 0.66 | 1.05 | 0.83 | 0.27 | 0.33 | 0.99 | 1.19 | 0, 0, 0, 0 |
+| valves | 3 | 0.14 | 0.22 | 0.88 | 0.94 |  | 0.14 | 0.23 | 1.03 | 1.05 | 0, 0, 0, 0 |
+| stations | 4 | 0.69 | 0.94 | 1.03 | 1.24 |  | 0.23 | 0.40 | 0.33 | 0.44 | 0, 0, 0, 0 |
+| meshes | 3 | 0.48 | 0.68 | 0.78 | 0.88 | 0.89 | 0.52 | 0.67 | 1.07 | 1.33 | 0, 0, 0, 0 |
+| equal alarms | 4 | 0.44 | 0.69 | 0.92 | 0.94 | 0.94 | 0.41 | 0.55 | 0.86 | 0.92 | 1, 1, 1, 0 |
+| lamps | 5 | 0.12 | 0.22 | 0.79 | 0.86 | 0.79 | 0.12 | 0.22 | 0.98 | 1.05 | 0, 0, 0, 1 |
+| grids | 22 | 1.01 | 3.27 | 0.60 | 1.05 | 0.80 | 0.17 | 0.85 | 0.17 | 1.06 | 5, 5, 0, 1 |
+| all | 137 | 0.52 | | 0.75 | | 0.83 | 0.22 | | 0.40 | | 10, 12, 2, 5 |
 
-Toruses take 0.037 of the library's seconds about refined models, in the mean of their three orders. One question of a protection and one of equal alarms are late about both models; the library isn't timed where no run is known. As written five grids in the order of each component are late, and a torus with 40 alarms in each order; refined none of these: they take 0.2 to 4.4 seconds, where the library takes 5.7 to 17 or is late (five of these eight).
-Where alarms leave nothing to guess, or nothing is seen, the further components are only more to write. By the least of fifteen calls in turns, on an idle machine, empty logs take 1.20 and protections 1.21 times as long about the refined model.
+Toruses take 0.042 of the library's seconds about refined models, in the mean of their three orders. One question of a protection and one of equal alarms are late about both models; the library isn't timed where no run is known. As written five grids in the order of each component are late, and a torus with 40 alarms in each order; refined none of these: they take 0.2 to 3.2 seconds, where the library takes 6.1 to 18 or is late (four of these eight).
+Adders were asked once more when all else had ended; with it they had taken 1.12 of the earlier program's seconds, and by turns on an idle machine they take 0.89. Where nothing is seen, the further components are only more to write. By the least of fifteen calls in turns empty logs take 1.18 times as long about the refined model.
 
 What stays dear are more steps than a log needs. With 1.5 times and twice as many steps it takes so many times as many clauses (and twenty more, in geometric means over the questions that were answered): units 2.2 and 2.6, grids 2.8, protection 5.6 and 12, telecom 9.9 and 35, torus 24 and 48 in
 the whole order, 7 and 46 in that of each component, 17 and 107 in blocks; meshes 0.9. bench/NOTES.md says what was tried against that.
