@@ -4,7 +4,7 @@
 
 PROGRAM is the program as `rt run` builds it, crates/diagnose_cli/out/diagnose_cli, and REFINE the one that writes models finer, crates/refine_cli/out/refine_cli. The models are those of `show.py`, and nine more, each of which goes to some of the limits of a model: states, components, transitions, events, parts or the length of names; `MORE` has a line for each. Seconds are those of the processor, the least of five runs in turns. It's no part of the gate.
 
-On 1 December 2026, by builds without their proofs, with other work beside: about as long as `show` on the models of `show.py`, 16 MiB each, in at most 0.24 seconds. With names of 56 characters, 12 MiB, it's 2.2 times, in 0.38 seconds, and 2.8 with 47,500 states and 56,000 parts, in 0.24. The others are smaller, 1 MiB at most, and take 0.05 seconds at most: the two of 1 MiB 1.1 and 2.5 times as long as `show`, the rest 2.3 to 7.0 times. Of these, what is written for those with 800, 960 and 996 further components, and for the one with 4,000 events, is 1.5 to 4 times as long as what is read.
+On 2 December 2026, by the proved programs on an idle machine: 0.8 to 1.2 times as long as `show` on the models of `show.py`, 16 MiB each, in at most 0.31 seconds. With names of 56 characters, 12 MiB, it's 2.2 times, in 0.43 seconds (2.6 in another run), and 2.7 with 47,500 states and 56,000 parts, in 0.27. The others are smaller, 1 MiB at most, and take 0.08 seconds at most: the two of 1 MiB 1.0 and 2.3 times as long as `show`, the rest 1.1 to 6.4 times. Of these, what is written for those with 800, 960 and 996 further components, and for the one with 4,000 events, is 1.5 to 4 times as long as what is read.
 """
 import os
 import sys
@@ -52,11 +52,11 @@ def wide():
 
 
 def resets():
-    """15 components of 256 states, and 4,000 events that touch all of them: half of them take each to its first state, so that nearly all states are wanted, and there is room for one."""
+    """15 components of 256 states, and 4,000 events that touch all of them: 1,900 take each to its first state, so that nearly all states are wanted, and there is room for one."""
     lines, states = ["des 1"], [f"s{it}" for it in range(256)]
     for number in range(15):
         lines += component(f"c{number}", states, [(it, "reset", "s0") for it in states] + [(it, "stay", it) for it in states])
-    return "\n".join(lines + [f"event e{it} : " + " ".join(f"c{k}.{'stay' if it < 2000 else 'reset'}" for k in range(15)) for it in range(4000)]) + "\n"
+    return "\n".join(lines + [f"event e{it} : " + " ".join(f"c{k}.{'stay' if it < 2100 else 'reset'}" for k in range(15)) for it in range(4000)]) + "\n"
 
 
 def staying():

@@ -162,17 +162,17 @@ fn add_wanted<R: Rule>(
         let Some(moving) = moving_of(alloc, net, comp, &sorted, state, by_action)? else {
             continue;
         };
-        let count = count_of(moving.as_slice(), by_action);
+        let counts = event_counts(moving.as_slice(), by_action);
         let candidate = Candidate {
             comp,
             state,
             states: net.states(comp),
             touching,
-            moving: count,
-            changing: changing_of(moving.as_slice(), by_action),
+            moving: counts.moving,
+            changing: counts.changing,
         };
         if rule.wants(&candidate) {
-            wanted.push(addition_of(alloc, net, comp, state, moving, count)?)?;
+            wanted.push(addition_of(alloc, net, comp, state, moving, counts.moving)?)?;
         }
     }
     Ok(())
@@ -215,24 +215,26 @@ fn take_change(effects: &mut Vec<Effect>, action: ActionId) -> Option<FollowerCh
     change
 }
 
-// How many events move the component.
-fn count_of(moving: &[Moving], by_action: &[ListOf<EventId>]) -> usize {
-    let mut count: usize = 0;
-    for one in moving {
-        count = count.saturating_add(events_by(by_action, one.action).len());
-    }
-    count
+// Of the events that touch a component, how many move the one that follows it, and how many of these may change it.
+#[derive(Clone, Copy)]
+struct EventCounts {
+    moving: usize,
+    changing: usize,
 }
 
-// How many events may change whether the component is in `yes`.
-fn changing_of(moving: &[Moving], by_action: &[ListOf<EventId>]) -> usize {
-    let mut count: usize = 0;
+fn event_counts(moving: &[Moving], by_action: &[ListOf<EventId>]) -> EventCounts {
+    let mut counts = EventCounts {
+        moving: 0,
+        changing: 0,
+    };
     for one in moving {
+        let events = events_by(by_action, one.action).len();
+        counts.moving = counts.moving.saturating_add(events);
         if one.change != FollowerChange::Stay {
-            count = count.saturating_add(events_by(by_action, one.action).len());
+            counts.changing = counts.changing.saturating_add(events);
         }
     }
-    count
+    counts
 }
 
 fn addition_of(
