@@ -1,5 +1,5 @@
 -- A book and how it is kept.
-use Rattle.std.proofs.Common.{◌≡◌, ◌∙◌, ℕ, zero, suc, ◌+◌, ◌<◌, ◌++◌, ◌∷◌, [], List, refl, ap, sym, length, arith, subst, append_assoc, take, drop, add-zero, Option, Some, None, slice_get, get_or}
+use Rattle.std.proofs.Common.{◌≡◌, ◌∙◌, ℕ, zero, suc, ◌+◌, ◌<◌, ◌++◌, ◌∷◌, [], List, refl, ap, sym, length, arith, subst, append_assoc, replicate, take, drop, add-zero, Option, Some, None, slice_get, get_or}
 use Rattle.std.specs.Prelude.{MatchOption}
 use Rattle.std.proofs.lemmas.Grind.{common_steps}
 use Rattle.std.proofs.lemmas.List.{append-nil}
@@ -11,7 +11,7 @@ use Rattle.proof_ledger.specs.declared.entry.KeptEntry.TheVariants.{Axiom, Learn
 use Rattle.proof_ledger.specs.declared.ledger.Origin.{Origin}
 use Rattle.proof_ledger.specs.declared.ledger.Origin.TheVariants as origins
 use Rattle.proof_ledger.specs.Book.{BookEntry, axiomatic, learnt, final, mark, clause_of, clause_hints_of, clauses_of, hints_of, shown, EachAfter, IsDerivedIfDue, DerivesFrom, IsEntryAt}
-use Rattle.proof_ledger.specs.Kept.{book_of, kept_from, kept, visible_entry, IsBook, IsKeptBook, made}
+use Rattle.proof_ledger.specs.Kept.{all_entries, all_hints, book_of, first_entries, kept_from, kept, visible_entry, IsBook, IsKeptBook, made}
 
 -- the book of what is kept of it
 pub book_of-kept : (count : ℕ) (book : List BookEntry) → book_of (kept_from count book) (clauses_of book) (hints_of book) ≡ book
@@ -50,11 +50,13 @@ is_book entries clauses hints book h =
       count = ap length h.clauses_are;
     }
 
-pub joined : (es es' : List KeptEntry) (cs cs' : List Clause) (hs hs' : List (List ℕ)) (book : List BookEntry) (e : BookEntry) → IsKeptBook es cs hs → book_of es cs hs ≡ book → IsDerivedIfDue book e →
-    es' ≡ es ++ kept (length cs + 1) e ∷ [] → cs' ≡ cs ++ clauses_of (e ∷ []) → hs' ≡ hs ++ hints_of (e ∷ []) → Joined es' cs' hs' (book ++ e ∷ [])
-joined es es' cs cs' hs hs' book e before same derived more_entries more_clauses more_hints =
-    let k : IsBook es cs hs book = subst (λ (b : List BookEntry). IsBook es cs hs b) same before in
-    is_book es' cs' hs' (book ++ e ∷ []) (record {
+pub joined : (first : ℕ) (es es' : List KeptEntry) (cs cs' : List Clause) (hs hs' : List (List ℕ)) (book : List BookEntry) (e : BookEntry) → IsKeptBook (all_entries first es) cs (all_hints first hs) → book_of (all_entries first es) cs (all_hints first hs) ≡ book → IsDerivedIfDue book e →
+    es' ≡ es ++ kept (length cs + 1) e ∷ [] → cs' ≡ cs ++ clauses_of (e ∷ []) → hs' ≡ hs ++ hints_of (e ∷ []) → Joined (all_entries first es') cs' (all_hints first hs') (book ++ e ∷ [])
+joined first es es' cs cs' hs hs' book e before same derived more_entries more_clauses more_hints =
+    let k : IsBook (all_entries first es) cs (all_hints first hs) book = subst (λ (b : List BookEntry). IsBook (all_entries first es) cs (all_hints first hs) b) same before in
+    let entries : all_entries first es' ≡ all_entries first es ++ kept (length cs + 1) e ∷ [] = ap (all_entries first) more_entries ∙ sym (append_assoc (first_entries first) es (kept (length cs + 1) e ∷ [])) in
+    let hints : all_hints first hs' ≡ all_hints first hs ++ hints_of (e ∷ []) = ap (all_hints first) more_hints ∙ sym (append_assoc (replicate first []) hs (hints_of (e ∷ []))) in
+    is_book (all_entries first es') cs' (all_hints first hs') (book ++ e ∷ []) (record {
       entries_are = let a = k.entries_are in let b = kept_from-append 0 book e in let d = ap length k.clauses_are in let z : 0 + length (clauses_of book) + 1 ≡ length cs + 1 = omega (arith, d) in cc;
       clauses_are = let a = k.clauses_are in let b = filter_map-append clause_of book (e ∷ []) in cc;
       hints_are = let a = k.hints_are in let b = filter_map-append clause_hints_of book (e ∷ []) in cc;
@@ -132,23 +134,23 @@ one_more : (cs : List Clause) (c : Clause) → length (cs ++ c ∷ []) ≡ lengt
 one_more cs c = grind (arith, common_steps)
 
 -- an axiom joins the book
-pub axiom_joined : (clause : Clause) (es es' : List KeptEntry) (cs cs' : List Clause) (hs hs' : List (List ℕ)) (book : List BookEntry) (id : ℕ) →
-    IsKeptBook es cs hs → book_of es cs hs ≡ book → id ≡ length cs' → es' ≡ es ++ Axiom id ∷ [] → cs' ≡ cs ++ clause ∷ [] → hs' ≡ hs ++ [] ∷ [] → Joined es' cs' hs' (book ++ axiomatic clause ∷ [])
-axiom_joined clause es es' cs cs' hs hs' book id before same number e c h =
+pub axiom_joined : (clause : Clause) (first : ℕ) (es es' : List KeptEntry) (cs cs' : List Clause) (hs hs' : List (List ℕ)) (book : List BookEntry) (id : ℕ) →
+    IsKeptBook (all_entries first es) cs (all_hints first hs) → book_of (all_entries first es) cs (all_hints first hs) ≡ book → id ≡ length cs' → es' ≡ es ++ Axiom id ∷ [] → cs' ≡ cs ++ clause ∷ [] → hs' ≡ hs ++ [] ∷ [] → Joined (all_entries first es') cs' (all_hints first hs') (book ++ axiomatic clause ∷ [])
+axiom_joined clause first es es' cs cs' hs hs' book id before same number e c h =
     let n : id ≡ length cs + 1 = number ∙ ap length c ∙ one_more cs clause in
-    joined es es' cs cs' hs hs' book (axiomatic clause) before same tt (e ∙ ap (λ k. es ++ Axiom k ∷ []) n) c h
+    joined first es es' cs cs' hs hs' book (axiomatic clause) before same tt (e ∙ ap (λ k. es ++ Axiom k ∷ []) n) c h
 
 -- a clause that is derived joins it by its origin
-pub put_joined : (origin : Origin) (clause : Clause) (hints : List ℕ) (es es' : List KeptEntry) (cs cs' : List Clause) (hs hs' : List (List ℕ)) (book : List BookEntry) (id : ℕ) (entry : KeptEntry) →
-    IsKeptBook es cs hs → book_of es cs hs ≡ book → DerivesFrom book clause hints → id ≡ length cs' → entry ≡ kept id (made origin [] []) →
-    es' ≡ es ++ entry ∷ [] → cs' ≡ cs ++ clause ∷ [] → hs' ≡ hs ++ hints ∷ [] → Joined es' cs' hs' (book ++ made origin clause hints ∷ [])
-put_joined origins.Learnt clause hints es es' cs cs' hs hs' book id entry before same derived number is e c h =
+pub put_joined : (origin : Origin) (clause : Clause) (hints : List ℕ) (first : ℕ) (es es' : List KeptEntry) (cs cs' : List Clause) (hs hs' : List (List ℕ)) (book : List BookEntry) (id : ℕ) (entry : KeptEntry) →
+    IsKeptBook (all_entries first es) cs (all_hints first hs) → book_of (all_entries first es) cs (all_hints first hs) ≡ book → DerivesFrom book clause hints → id ≡ length cs' → entry ≡ kept id (made origin [] []) →
+    es' ≡ es ++ entry ∷ [] → cs' ≡ cs ++ clause ∷ [] → hs' ≡ hs ++ hints ∷ [] → Joined (all_entries first es') cs' (all_hints first hs') (book ++ made origin clause hints ∷ [])
+put_joined origins.Learnt clause hints first es es' cs cs' hs hs' book id entry before same derived number is e c h =
     let n : id ≡ length cs + 1 = number ∙ ap length c ∙ one_more cs clause in
-    joined es es' cs cs' hs hs' book (learnt clause hints) before same derived (e ∙ ap (λ x. es ++ x ∷ []) (is ∙ ap Learnt n)) c h
-put_joined origins.Final clause hints es es' cs cs' hs hs' book id entry before same derived number is e c h =
+    joined first es es' cs cs' hs hs' book (learnt clause hints) before same derived (e ∙ ap (λ x. es ++ x ∷ []) (is ∙ ap Learnt n)) c h
+put_joined origins.Final clause hints first es es' cs cs' hs hs' book id entry before same derived number is e c h =
     let n : id ≡ length cs + 1 = number ∙ ap length c ∙ one_more cs clause in
-    joined es es' cs cs' hs hs' book (final clause hints) before same derived (e ∙ ap (λ x. es ++ x ∷ []) (is ∙ ap Final n)) c h
+    joined first es es' cs cs' hs hs' book (final clause hints) before same derived (e ∙ ap (λ x. es ++ x ∷ []) (is ∙ ap Final n)) c h
 
 -- a mark joins it, and the clauses stay
-pub mark_joined : (number : ℕ) (es es' : List KeptEntry) (cs : List Clause) (hs : List (List ℕ)) (book : List BookEntry) → IsKeptBook es cs hs → book_of es cs hs ≡ book → es' ≡ es ++ Mark number ∷ [] → Joined es' cs hs (book ++ mark number ∷ [])
-mark_joined number es es' cs hs book before same e = joined es es' cs cs hs hs book (mark number) before same tt e (sym (append-nil cs)) (sym (append-nil hs))
+pub mark_joined : (number : ℕ) (first : ℕ) (es es' : List KeptEntry) (cs : List Clause) (hs : List (List ℕ)) (book : List BookEntry) → IsKeptBook (all_entries first es) cs (all_hints first hs) → book_of (all_entries first es) cs (all_hints first hs) ≡ book → es' ≡ es ++ Mark number ∷ [] → Joined (all_entries first es') cs (all_hints first hs) (book ++ mark number ∷ [])
+mark_joined number first es es' cs hs book before same e = joined first es es' cs cs hs hs book (mark number) before same tt e (sym (append-nil cs)) (sym (append-nil hs))

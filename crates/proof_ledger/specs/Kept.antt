@@ -1,5 +1,6 @@
--- How a ledger keeps its book: entries with the numbers of clauses, and the clauses and their hints beside them.
-use Rattle.std.specs.Prelude.{◌≡◌, ℕ, ◌+◌, List, [], ◌∷◌, drop, slice_index_or}
+-- How a ledger keeps its book: entries with the numbers of clauses, and the clauses and their hints beside them. Of the axioms with which it begins the clauses alone are kept.
+use Rattle.std.specs.Prelude.{◌≡◌, ℕ, ◌+◌, List, [], ◌∷◌, ◌++◌, map, drop, replicate, slice_index_or}
+use Rattle.std.specs.List.{range_with_len}
 use Rattle.prop_core.specs.Clauses.{Clause}
 use Rattle.proof_ledger.specs.declared.entry.Entry.{Entry}
 use Rattle.proof_ledger.specs.declared.entry.Entry.TheVariants as shown_entries
@@ -22,6 +23,18 @@ book_of (Axiom id ∷ entries) clauses hints = axiomatic (slice_index_or clauses
 book_of (Learnt id ∷ entries) clauses hints = learnt (slice_index_or clauses 0 []) (slice_index_or hints 0 []) ∷ book_of entries (drop 1 clauses) (drop 1 hints)
 book_of (Final id ∷ entries) clauses hints = final (slice_index_or clauses 0 []) (slice_index_or hints 0 []) ∷ book_of entries (drop 1 clauses) (drop 1 hints)
 book_of (Mark k ∷ entries) clauses hints = mark k ∷ book_of entries clauses hints
+
+-- the entries of so many axioms with which a book begins
+abbrev pub first_entries : ℕ → List KeptEntry
+first_entries first = map Axiom (range_with_len 1 first)
+
+-- the entries of a book that begins with so many axioms, where these are kept of it
+abbrev pub all_entries : ℕ → List KeptEntry → List KeptEntry
+all_entries first entries = first_entries first ++ entries
+
+-- and the hints of its clauses: such an axiom has none
+abbrev pub all_hints : ℕ → List (List ℕ) → List (List ℕ)
+all_hints first hints = replicate first [] ++ hints
 
 -- the entries as they are kept, behind some number of clauses
 abbrev pub kept_from : ℕ → List BookEntry → List KeptEntry

@@ -24,6 +24,8 @@ pub enum Origin {
 pub struct Ledger {
     pub(crate) alloc: Global,
     clauses: Clauses,
+    // With so many axioms the book begins. They have no hints and are numbered from 1, so that nothing more is kept of them.
+    first: u32,
     hints: Pieces<ClauseId>,
     entries: Vec<KeptEntry>,
     truths: Truths,
@@ -31,14 +33,14 @@ pub struct Ledger {
 
 impl Model for Ledger {
     ghost use Rattle.std.specs.Prelude.{◌+◌, ◌≤◌, vec_len, vec_capacity};
-    ghost use Rattle.proof_ledger.specs.Kept.{LedgerState, book_of, IsKeptBook};
+    ghost use Rattle.proof_ledger.specs.Kept.{LedgerState, book_of, IsKeptBook, all_entries, all_hints};
 
     ghost Value = { LedgerState };
 
-    ghost view = { λ a. record { entries = book_of a.entries.items a.clauses.clauses a.hints.pieces; spare_clauses = a.clauses.spare_clauses; spare_literals = a.clauses.spare_literals } };
+    ghost view = { λ a. record { entries = book_of (all_entries a.first a.entries.items) a.clauses.clauses (all_hints a.first a.hints.pieces); spare_clauses = a.clauses.spare_clauses; spare_literals = a.clauses.spare_literals } };
 
     ghost invariant = { λ a. record {
-      kept : IsKeptBook a.entries.items a.clauses.clauses a.hints.pieces;
+      kept : IsKeptBook (all_entries a.first a.entries.items) a.clauses.clauses (all_hints a.first a.hints.pieces);
       hints : a.clauses.spare_clauses ≤ a.hints.spare_pieces;
       entries : vec_len a.entries + a.clauses.spare_clauses ≤ vec_capacity a.entries;
     } };
@@ -50,6 +52,7 @@ impl Drop for Ledger {
         let Self {
             alloc: _,
             clauses: _,
+            first: _,
             hints: _,
             entries: _,
             truths: _,
@@ -65,6 +68,7 @@ impl Ledger {
         Ledger {
             alloc,
             clauses: Clauses::new(alloc),
+            first: 0,
             hints: Pieces::new(alloc),
             entries: Vec::new(alloc),
             truths: Truths::new(alloc),
@@ -75,21 +79,14 @@ impl Ledger {
     pub fn of_axioms(alloc: Global, clauses: Clauses) -> Result<Ledger, Memory>
         ensures { IfOk result (λ book. book.entries ≡ map axiomatic clauses.clauses) }
     {
-        let count = clauses.len();
-        let Some(room) = clauses.spare_clauses().checked_add(count as usize) else {
-            return Err(Memory);
-        };
+        let room = clauses.spare_clauses();
         let mut hints = Pieces::new(alloc);
         let mut entries = Vec::new(alloc);
         hints.reserve(room, 0)?;
         entries.reserve(room)?;
-        for before in 0..count {
-            hints.push_reserved(&[]);
-            let number = clauses.number(ClauseId(before + 1));
-            entries.push(KeptEntry::Axiom(number)).unwrap();
-        }
         Ok(Ledger {
             alloc,
+            first: clauses.number(ClauseId(clauses.len())),
             clauses,
             hints,
             entries,
@@ -109,7 +106,7 @@ impl Ledger {
         ensures count { result ≡ length self.now.entries }
         ensures valid { IsValidBook self.now.entries }
     {
-        self.entries.len() as u64
+        self.first as u64 + self.entries.len() as u64
     }
 
     /// A law: each learnt and each final clause of the book derives from the clauses before it.
@@ -124,7 +121,10 @@ impl Ledger {
         requires { place < length self.now.entries }
         ensures { IsEntryAt self.now.entries place result }
     {
-        shown_entry(self.entries[place as usize])
+        if place < self.first as u64 {
+            return Entry::Axiom(ClauseId(place + 1));
+        }
+        shown_entry(self.entries[(place - self.first as u64) as usize])
     }
 
     /// The clauses of the book.
@@ -142,7 +142,10 @@ impl Ledger {
         requires in_range { id ≤ length (clauses_of self.now.entries) }
         ensures { slice_get (hints_of self.now.entries) (id - 1) ≡ Some result.now }
     {
-        self.hints.piece(id.0 as usize - 1)
+        if id.0 <= self.first as u64 {
+            return &[];
+        }
+        self.hints.piece((id.0 - 1 - self.first as u64) as usize)
     }
 
     /// Makes sure that there is room for this many more clauses with this many literals together.

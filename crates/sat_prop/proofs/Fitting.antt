@@ -51,12 +51,12 @@ may_decide a t view k l known undecided =
 
 -- an attached clause forces it
 pub record MayForce (a : Inside) (l : Lit) (number : ℕ) : Type 0 where
-  pub forced : IsForced a.db.value.clauses a.attached.items a.literals.items (length a.places.items) l number
+  pub forced : IsForced a.db.value.clauses a.attached a.literals.items (length a.places.items) l number
   pub room : HasRoomFor a l
 
 pub may_force : (a : Inside) (t : TrailState) → trail_view a ≡ t → IsKeptTrail a → (all : List Clause) (l : Lit) (number : ℕ) → IsFront t.clauses all → Contains t.attached number → stands t.literals (clause_numbered all number) ≡ unit l → MayForce a l number
 may_force a t view k all l number grown attached forces =
-    let forced = forced_from a.db.value.clauses all a.attached.items a.literals.items (length a.places.items) l number
+    let forced = forced_from a.db.value.clauses all a.attached a.literals.items (length a.places.items) l number
     (subst (λ (s : TrailState). IsFront s.clauses all) (sym view) grown) k.state.known
     (subst (λ (s : TrailState). Contains s.attached number) (sym view) attached)
     (subst (λ (s : TrailState). stands s.literals (clause_numbered all number) ≡ unit l) (sym view) forces) in

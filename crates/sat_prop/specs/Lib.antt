@@ -1,3 +1,4 @@
+pub mod Ids
 pub mod Changes
 pub mod Kept
 pub mod Levels

@@ -1,5 +1,5 @@
 -- What a trail, watch lists and what is watched are seen as, and what their fields keep.
-use Rattle.std.specs.Prelude.{◌≡◌, ◌+◌, ◌*◌, ◌%◌, ◌≤◌, length, vec_len, vec_capacity}
+use Rattle.std.specs.Prelude.{◌≡◌, ◌+◌, ◌*◌, ◌^◌, ◌%◌, ◌<◌, ◌≤◌, length, vec_len, vec_capacity}
 use Rattle.des_base.specs.declared.TheConstants.{VAR_LIMIT}
 use Rattle.sat_prop.specs.declared.trail.Trail.TheInside.{Inside as TrailInside}
 use Rattle.sat_prop.specs.declared.watch_lists.TheConstants.{NO_WATCH}
@@ -12,7 +12,7 @@ use Rattle.sat_prop.specs.Watching.{WatchedState}
 
 -- a trail as the clauses that are attached, and the literals with their reasons
 abbrev pub trail_view : TrailInside → TrailState
-trail_view a = record { clauses = a.db.value.clauses; attached = a.attached.items; literals = a.literals.items; reasons = a.reasons.items; vars = length a.places.items; spare = a.spare }
+trail_view a = record { clauses = a.db.value.clauses; attached = a.attached; literals = a.literals.items; reasons = a.reasons.items; vars = length a.places.items; spare = a.spare }
 
 -- what is kept beside the literals is theirs, and there is room for the literals of all variables
 pub record IsKeptTrail (a : TrailInside) : Type 0 where
@@ -22,7 +22,7 @@ pub record IsKeptTrail (a : TrailInside) : Type 0 where
   pub levels : AreLevels a.reasons.items a.levels.items
   pub starts : AreStarts a.reasons.items a.starts.items
   pub limit : vec_len a.places ≤ VAR_LIMIT
-  pub room_attached : vec_len a.attached + a.spare ≤ vec_capacity a.attached
+  pub few : a.spare < 2 ^ 32
   pub room_literals : vec_len a.places ≤ vec_capacity a.literals
   pub room_reasons : vec_len a.places ≤ vec_capacity a.reasons
   pub room_levels : vec_len a.places ≤ vec_capacity a.levels

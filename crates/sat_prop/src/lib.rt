@@ -11,7 +11,9 @@
 //!   neither false nor unit where the later one isn't.
 #![tactic(auto)]
 
+mod attached;
 mod attachment;
+mod ids;
 mod propagator;
 mod recent;
 mod standing;

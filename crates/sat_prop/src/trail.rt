@@ -10,6 +10,7 @@ ghost use Rattle.sat_prop.specs.Quiet.{AreQuiet, JoinsQuietly, stands};
 ghost use Rattle.sat_prop.specs.Changes.{IsFront, with_true_literal, with_attached_clause, IsKeptUpTo};
 ghost use Rattle.sat_prop.specs.Kept.{IsTrailState, AreValues, IsSeen};
 
+use crate::attached::Attached;
 use crate::standing::Stands;
 use des_base::{Memory, VAR_LIMIT};
 use prop_core::{ClauseId, Clauses, Lit};
@@ -23,7 +24,7 @@ use std::snapshot::Snapshot;
 #[derive(Drop)]
 pub struct Trail {
     db: Snapshot<Clauses>,
-    attached: Vec<u32>,
+    attached: Attached,
     spare: usize,
     literals: Vec<Lit>,
     reasons: Vec<Option<ClauseId>>,
@@ -52,7 +53,7 @@ impl Trail {
     {
         Trail {
             db: Snapshot::of(&Clauses::new(alloc)),
-            attached: Vec::new(alloc),
+            attached: Attached::none(),
             spare: 0,
             literals: Vec::new(alloc),
             reasons: Vec::new(alloc),
@@ -87,7 +88,9 @@ impl Trail {
         ensures ok { OnOk result (self.new ≡ record self.old { spare = max self.old.spare clauses }) }
         ensures err { OnErr result (self.new ≡ self.old) }
     {
-        self.attached.reserve(self.spare.max(clauses))?;
+        if clauses > MOST_CLAUSES {
+            return Err(Memory);
+        }
         self.spare = self.spare.max(clauses);
         Ok(())
     }
@@ -102,7 +105,7 @@ impl Trail {
         requires quiet { JoinsQuietly self.old (clause_numbered db.now.clauses id) }
         ensures { self.new ≡ with_attached_clause self.old db.now.clauses id }
     {
-        self.attached.push(db.number(id)).unwrap();
+        self.attached.push(id);
         self.spare -= 1;
         self.db = Snapshot::of(db);
     }
@@ -309,6 +312,9 @@ impl Trail {
         append(&mut self.levels, self.starts.len() as u32);
     }
 }
+
+// There are fewer clauses than 2^32.
+const MOST_CLAUSES: usize = u32::MAX as usize;
 
 // Makes sure that there is room for this many literals, with the reason and the level of each, and for as many levels.
 fn reserve_literals(

@@ -1,10 +1,11 @@
 use Rattle.std.proofs.Common.{◌∙◌, ◌++◌, ◌∷◌, [], ap, sym, arith, length, rules}
 use Rattle.proof_ledger.specs.Book.{axiomatic, clauses_of}
+use Rattle.proof_ledger.specs.Kept.{all_entries, all_hints}
 use Rattle.proof_ledger.proofs.Books.{Joined, axiom_joined}
 use Rattle.proof_ledger.proofs.ledger.Ledger.push_axiom.Goals as goal
 
-all : (c : goal.After-unwrap) → Joined c.push.new.self.items c.push_reserved-id.new.self.clauses c.push_reserved.new.self.pieces (c.args.self.now.entries ++ axiomatic c.args.clause.now ∷ [])
-all c = axiom_joined c.args.clause.now c.self.inside.entries.items _ c.self.inside.clauses.clauses _ c.self.inside.hints.pieces _ _ c.number-number.result c.self.invariant.kept (ap (λ v. v.entries) c.self.view_is) (c.number-number.ensures ∙ c.push_reserved-id.ensures.id) (search rules) c.push_reserved-id.ensures.added (search rules)
+all : (c : goal.After-unwrap) → Joined (all_entries c.self.inside.first c.push.new.self.items) c.push_reserved-id.new.self.clauses (all_hints c.self.inside.first c.push_reserved.new.self.pieces) (c.args.self.now.entries ++ axiomatic c.args.clause.now ∷ [])
+all c = axiom_joined c.args.clause.now c.self.inside.first c.self.inside.entries.items _ c.self.inside.clauses.clauses _ c.self.inside.hints.pieces _ _ c.number-number.result c.self.invariant.kept (ap (λ v. v.entries) c.self.view_is) (c.number-number.ensures ∙ c.push_reserved-id.ensures.id) (search rules) c.push_reserved-id.ensures.added (search rules)
 
 pub invariant_of-self : goal.invariant_of-self
 invariant_of-self c = record {

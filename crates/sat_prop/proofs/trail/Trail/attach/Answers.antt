@@ -16,16 +16,14 @@ invariant_of-self c =
     let known = known_from c.args.db.now.clauses _ c.args.id c.requires.from_one c.requires.in_range (subst (λ (s : TrailState). IfSome (clause_numbered c.args.db.now.clauses c.args.id) (HasValues s.vars)) (sym c.self.view_is) c.requires.known) in
     let quiet = subst (λ (s : TrailState). JoinsQuietly s (clause_numbered c.args.db.now.clauses c.args.id)) (sym c.self.view_is) c.requires.quiet in
     let some = subst (λ (s : TrailState). 1 ≤ s.spare) (sym c.self.view_is) c.requires.room in
-    let u = c.unwrap.ensures in
-    let e : c.push.new.self.items ≡ c.self.inside.attached.items ++ c.args.id ∷ [] = let a = c.push.ensures.items in grind (arith, common_steps) in
     record {
-      state = rw (c.of.ensures, e) (state_attach _ c.args.db.now.clauses c.args.id c.self.invariant.state front known quiet);
+      state = rw (c.of.ensures, c.push.ensures) (state_attach _ c.args.db.now.clauses c.args.id c.self.invariant.state front known quiet);
       places = c.self.invariant.places;
       values = c.self.invariant.values;
       levels = c.self.invariant.levels;
       starts = c.self.invariant.starts;
       limit = c.self.invariant.limit;
-      room_attached = let a = c.self.invariant.room_attached in let b = c.push.ensures.capacity in let n = c.push.ensures.len in grind (arith, common_steps);
+      few = let some = c.self.invariant.few in omega (arith, some);
       room_literals = c.self.invariant.room_literals;
       room_reasons = c.self.invariant.room_reasons;
       room_levels = c.self.invariant.room_levels;

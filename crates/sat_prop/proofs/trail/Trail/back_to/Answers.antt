@@ -41,7 +41,7 @@ invariant_of-self c =
       levels = rw (r, c.truncate-3.ensures.items) (levels_take _ _ c.count_up_to-kept.result c.self.invariant.levels);
       starts = rw (r, c.truncate-4.ensures.items) (starts_take _ _ c.args.level c.count_up_to-kept.result c.self.invariant.starts cut level);
       limit = c.self.invariant.limit;
-      room_attached = c.self.invariant.room_attached;
+      few = c.self.invariant.few;
       room_literals = let a = c.self.invariant.room_literals in let b = c.truncate.ensures.capacity in omega arith;
       room_reasons = let a = c.self.invariant.room_reasons in let b = c.truncate-2.ensures.capacity in omega arith;
       room_levels = let a = c.self.invariant.room_levels in let b = c.truncate-3.ensures.capacity in omega arith;

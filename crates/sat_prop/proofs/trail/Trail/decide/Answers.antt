@@ -47,7 +47,7 @@ invariant_of-self c =
       levels = rw (c.append-2.ensures.items, c.append-3.ensures.items) (levels_more _ _ None _ c.self.invariant.levels (let e = level_decided c.self.inside.reasons.items in grind (arith, common_steps)));
       starts = rw (c.append-2.ensures.items, begun) (starts_decided _ _ c.self.invariant.starts);
       limit = let a = c.self.invariant.limit in grind (arith, common_steps);
-      room_attached = c.self.invariant.room_attached;
+      few = c.self.invariant.few;
       room_literals = let a = c.self.invariant.room_literals in let b = c.append.ensures.room in grind (arith, common_steps);
       room_reasons = let a = c.self.invariant.room_reasons in let b = c.append-2.ensures.room in grind (arith, common_steps);
       room_levels = let a = c.self.invariant.room_levels in let b = c.append-3.ensures.room in grind (arith, common_steps);

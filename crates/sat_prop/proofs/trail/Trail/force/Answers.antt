@@ -41,7 +41,7 @@ invariant_of-self c =
       levels = rw (c.append-2.ensures.items, c.append-3.ensures.items) (levels_more _ _ (Some c.args.id) _ c.self.invariant.levels (let e = level_forced c.self.inside.reasons.items c.args.id in let a = c.self.invariant.starts.count in grind (arith, common_steps)));
       starts = rw c.append-2.ensures.items (starts_forced _ _ c.args.id c.self.invariant.starts);
       limit = let a = c.self.invariant.limit in grind (arith, common_steps);
-      room_attached = c.self.invariant.room_attached;
+      few = c.self.invariant.few;
       room_literals = let a = c.self.invariant.room_literals in let b = c.append.ensures.room in grind (arith, common_steps);
       room_reasons = let a = c.self.invariant.room_reasons in let b = c.append-2.ensures.room in grind (arith, common_steps);
       room_levels = let a = c.self.invariant.room_levels in let b = c.append-3.ensures.room in grind (arith, common_steps);
