@@ -1,7 +1,6 @@
 -- Additions that are drafted for what a session keeps: their sizes, and that there is room for their variables.
 use Rattle.std.proofs.Common.{◌≡◌, ◌∙◌, ℕ, ◌+◌, ◌<◌, ◌≤◌, Bool, false, List, [], ◌∷◌, length, sym, ap, subst, arith, length-append}
 use Rattle.alarm_session.proofs.Keeping.{Codes, alarm_codes, draft_fits, log_fits, pair_codes, paired, paired_is}
-use Rattle.alarm_session.specs.Additions.{alarm_addition}
 use Rattle.alarm_session.specs.Session.{IsDraftedFor, IsFor}
 use Rattle.alarm_session.specs.declared.kept.Drafted.{Drafted}
 use Rattle.alarm_session.specs.declared.kept.Kept.{Kept}
@@ -11,7 +10,7 @@ use Rattle.des_net.specs.Network.{Net}
 use Rattle.least_faults.specs.Parts.{AreParts, IsWithinLimits}
 use Rattle.least_faults.specs.declared.TheConstants.{MOST_SIZE}
 use Rattle.question_clauses.specs.Additions.{Addition, alarm_added, pair_added, with_addition}
-use Rattle.log_encode.specs.CodedLog.{addition_width, nameless}
+use Rattle.log_encode.specs.CodedLog.{addition_width}
 use Rattle.log_encode.specs.Drafted.{DraftState, IsDraftOf}
 use Rattle.log_order.specs.Adding.{with_alarm, with_texts}
 use Rattle.log_order.specs.Log.{Log, an_alarm, has_pair}
@@ -49,19 +48,19 @@ module _ {R : Type 0} (net : Net) (n : ℕ) (kept : Kept R) (of_log : IsFor net 
       longer : length (with_alarm kept.log name labels doubtful).alarms ≤ 2000
       longer = omega (arith, few, length-append kept.log.alarms (an_alarm name (with_texts [] labels) doubtful ∷ []))
 
-      codes : Codes kept.parts.code.coded.log (alarm_added (nameless (with_texts [] labels) doubtful)) (with_alarm kept.log name labels doubtful)
+      codes : Codes kept.parts.code.coded.log (alarm_added (an_alarm name (with_texts [] labels) doubtful)) (with_alarm kept.log name labels doubtful)
       codes = alarm_codes kept.log kept.parts.code.coded.log name (with_texts [] labels) doubtful of_log.belong.same_log
 
-      pub alarm_room : kept.parts.vars + addition_width kept.parts.code.coded (alarm_added (nameless once doubtful)) ≤ VAR_LIMIT
+      pub alarm_room : kept.parts.vars + addition_width kept.parts.code.coded (alarm_added (an_alarm name once doubtful)) ≤ VAR_LIMIT
       alarm_room =
-          subst (λ ls. kept.parts.vars + addition_width kept.parts.code.coded (alarm_added (nameless ls doubtful)) ≤ VAR_LIMIT) (sym each)
-          (addition_room (alarm_added (nameless (with_texts [] labels) doubtful)) (with_alarm kept.log name labels doubtful) codes longer size alarm_sized small)
+          subst (λ ls. kept.parts.vars + addition_width kept.parts.code.coded (alarm_added (an_alarm name ls doubtful)) ≤ VAR_LIMIT) (sym each)
+          (addition_room (alarm_added (an_alarm name (with_texts [] labels) doubtful)) (with_alarm kept.log name labels doubtful) codes longer size alarm_sized small)
 
-      pub alarm_drafted : (draft : DraftState) → IsDraftOf kept.parts.code.coded (alarm_added (nameless once doubtful)) kept.parts.vars draft →
-          IsDraftedFor net n kept (alarm_added (nameless (with_texts [] labels) doubtful)) (with_alarm kept.log name labels doubtful) (record { draft = draft; size = size })
+      pub alarm_drafted : (draft : DraftState) → IsDraftOf kept.parts.code.coded (alarm_added (an_alarm name once doubtful)) kept.parts.vars draft →
+          IsDraftedFor net n kept (alarm_added (an_alarm name (with_texts [] labels) doubtful)) (with_alarm kept.log name labels doubtful) (record { draft = draft; size = size })
       alarm_drafted draft is =
-          addition_drafted (alarm_added (nameless (with_texts [] labels) doubtful)) (with_alarm kept.log name labels doubtful) codes longer size alarm_sized small draft
-          (subst (λ ls. IsDraftOf kept.parts.code.coded (alarm_added (nameless ls doubtful)) kept.parts.vars draft) each is)
+          addition_drafted (alarm_added (an_alarm name (with_texts [] labels) doubtful)) (with_alarm kept.log name labels doubtful) codes longer size alarm_sized small draft
+          (subst (λ ls. IsDraftOf kept.parts.code.coded (alarm_added (an_alarm name ls doubtful)) kept.parts.vars draft) each is)
 
   -- ---- a pair
 
@@ -78,6 +77,6 @@ module _ {R : Type 0} (net : Net) (n : ℕ) (kept : Kept R) (of_log : IsFor net 
 -- ---- an alarm that is said to be as doubtful as it is
 
 pub drafted_alike : {R : Type 0} (net : Net) (n : ℕ) (kept : Kept R) (name : List ℕ) (labels : List (List ℕ)) (drafted : Drafted) (d e : Bool) → d ≡ e →
-    IsDraftedFor net n kept (alarm_addition labels d) (with_alarm kept.log name labels d) drafted → IsDraftedFor net n kept (alarm_addition labels e) (with_alarm kept.log name labels e) drafted
+    IsDraftedFor net n kept (alarm_added (an_alarm name (with_texts [] labels) d)) (with_alarm kept.log name labels d) drafted → IsDraftedFor net n kept (alarm_added (an_alarm name (with_texts [] labels) e)) (with_alarm kept.log name labels e) drafted
 drafted_alike net n kept name labels drafted d e same is =
-    subst (λ (doubtful : Bool). IsDraftedFor net n kept (alarm_addition labels doubtful) (with_alarm kept.log name labels doubtful) drafted) same is
+    subst (λ (doubtful : Bool). IsDraftedFor net n kept (alarm_added (an_alarm name (with_texts [] labels) doubtful)) (with_alarm kept.log name labels doubtful) drafted) same is

@@ -1,7 +1,7 @@
 -- What a session keeps once an addition is made, and where it isn't.
-use Rattle.std.proofs.Common.{◌≡◌, ◌∙◌, ℕ, ◌≤◌, true, false, cond, Option, None, Some, refl, sym, ap, subst}
+use Rattle.std.proofs.Common.{◌≡◌, ◌∙◌, ℕ, ◌≤◌, Bool, true, false, cond, List, [], ◌∷◌, ◌++◌, length, Option, None, Some, refl, sym, ap, subst}
 use Rattle.alarm_session.proofs.Keeping.{Codes, adds_none, belong_roomy, belong_with, few_with, old_pair, paired, time_roomy, time_with}
-use Rattle.alarm_session.specs.Additions.{built_on, pair_addition}
+use Rattle.alarm_session.specs.Additions.{alarm_addition, built_on, next_id, pair_addition}
 use Rattle.alarm_session.specs.Session.{Becomes, IsDraftedFor, IsFor, IsRankedKept, Stage, stage_of}
 use Rattle.alarm_session.specs.declared.kept.Drafted.{Drafted}
 use Rattle.alarm_session.specs.declared.kept.Kept.{Kept}
@@ -12,9 +12,10 @@ use Rattle.least_faults.specs.Adding.{AddsFew, HasAddition, KeepsAllButRoom}
 use Rattle.least_faults.specs.Bounds.{question_variables}
 use Rattle.least_faults.specs.Parts.{AreParts, AreReady, IsWithinLimits, built_of}
 use Rattle.least_faults.specs.declared.parts.Parts.{Parts}
-use Rattle.question_clauses.specs.Additions.{Addition, pair_added, with_addition}
+use Rattle.question_clauses.specs.Additions.{Addition, alarm_added, pair_added, with_addition}
 use Rattle.log_encode.specs.Drafted.{DraftState, IsDraftOf}
-use Rattle.log_order.specs.Log.{Log, has_pair}
+use Rattle.log_order.specs.Log.{Log, Alarm, an_alarm, has_pair, id_of}
+use Rattle.log_order.specs.Adding.{with_alarm, with_texts}
 use Rattle.proof_ledger.specs.Book.{axioms_of}
 use Rattle.proof_ledger.specs.Kept.{LedgerState}
 use Rattle.replay.specs.QuestionSize.{question_size}
@@ -59,10 +60,10 @@ module _ {R : Type 0} (net : Net) (n : ℕ) (kept : Kept R) (addition : Addition
 
     pub becomes_with : (may : R → ℕ → Type 0) (gives : R → ℕ → ℕ → Type 0) → AreReady may gives now now_book.entries → AreParts kept.parts.step kept.parts.code.coded kept.parts.counter kept.parts.vars (axioms_of kept.book.entries) →
         AddsFew mid.code.coded.net mid.code.coded.grid.steps mid.code.coded.log now.code.coded.log mid_book.entries now_book.entries → (size : ℕ) →
-        Becomes net n new (Some addition) (stage_of kept) (stage_of (record { log = log; size = size; parts = now; book = now_book }))
-    becomes_with may gives ready coded few size = record {
+        (said : Addition) → ((question : BuiltQuestion) → built_on (next_id kept.log.alarms new) question (Some said) ≡ added_built question addition) → Becomes net n new (Some said) (stage_of kept) (stage_of (record { log = log; size = size; parts = now; book = now_book }))
+    becomes_with may gives ready coded few size said by_id = record {
       log = made;
-      built = built_further;
+      built = built_further ∙ sym (by_id (roomless (built_of kept.parts kept.book.entries)));
       few = subst (λ l. AddsFew net n kept.log l kept.book.entries now_book.entries) made
           (few_with net n kept.log log kept.parts mid now kept.book.entries mid_book.entries now_book.entries of_log.belong of_log.time room draft joined ready.coded own_codes few coded);
     }
@@ -90,6 +91,17 @@ stage_roomy kept mid mid_book log size room same =
     let book = room.book in
     λ i. record { log = same i; built = built i; book = book i }
 
+-- ---- an alarm
+
+-- it has the id that the longer log has for it
+pub alarm_by_id : (log : Log) (id : List ℕ) (labels : List (List ℕ)) (doubtful : Bool) (question : BuiltQuestion) →
+    built_on (next_id log.alarms (with_alarm log id labels doubtful)) question (Some (alarm_addition labels doubtful)) ≡ added_built question (alarm_added (an_alarm id (with_texts [] labels) doubtful))
+alarm_by_id log id labels doubtful question = ap (λ name. added_built question (alarm_added (an_alarm name (with_texts [] labels) doubtful))) (last log.alarms)
+  where
+    last : (alarms : List Alarm) → id_of (alarms ++ an_alarm id (with_texts [] labels) doubtful ∷ []) (length alarms) ≡ id
+    last [] = refl
+    last (alarm ∷ alarms) = last alarms
+
 -- ---- a pair
 
 -- that is new adds itself
@@ -105,6 +117,6 @@ becomes_again net n stage i j there =
     let same = old_pair stage.log i j there in
     record {
       log = sym same;
-      built = ap (built_on stage.built) none;
+      built = ap (built_on (next_id stage.log.alarms (paired stage.log i j)) stage.built) none;
       few = subst (λ l. AddsFew net n stage.log l stage.book stage.book) (sym same) (adds_none net n stage.log stage.book stage.book refl);
     }

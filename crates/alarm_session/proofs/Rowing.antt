@@ -1,7 +1,7 @@
 -- What comes of rows: of each by what its addition answers or what is found, and of some by what comes of one more.
 use Rattle.std.proofs.Common.{◌≡◌, ◌≢◌, ◌∙◌, ℕ, Bool, true, false, not, cond, List, [], ◌∷◌, ◌++◌, Option, None, Some, inl, Result, Ok, Err, IfOk, OnOk, OnErr, is_some, refl, sym, ap, subst, append-nil, append_assoc, arith, length, length-append, map}
 use Rattle.alarm_session.proofs.Keeping.{adds_none}
-use Rattle.alarm_session.specs.Additions.{built_on}
+use Rattle.alarm_session.specs.Additions.{built_on, next_id}
 use Rattle.alarm_session.specs.Refusals.{refusal_of_alarm, refusal_of_before, is_new_pair, log_with, numbers_of}
 use Rattle.alarm_session.specs.Rows.{AreRowsTold, HasCarriedOut, IsLeftUndone, IsRowTold, after_row, built_after, built_with_row, log_after_rows, row_addition, row_refusal, rows_built, told_by, with_row}
 use Rattle.alarm_session.specs.Session.{Becomes, IsSessionBook, Stage, first_stage}
@@ -66,7 +66,7 @@ module _ (log : Log) (row : Row) (old new : Stage) where
 -- ---- one row
 
 -- where a row doesn't ask, its question is built further with what it adds
-adds_built : (log : Log) (question : BuiltQuestion) (row : Row) (columns : ℕ) → row ≢ Ask → built_on question (row_addition log row) ≡ built_with_row log question row columns
+adds_built : (log : Log) (question : BuiltQuestion) (row : Row) (columns : ℕ) → row ≢ Ask → built_on (next_id log.alarms (with_row log row)) question (row_addition log row) ≡ built_with_row log question row columns
 adds_built log question (Alarm id labels) columns addition = refl
 adds_built log question (Maybe id labels) columns addition = refl
 adds_built log question (Before first second) columns addition = refl

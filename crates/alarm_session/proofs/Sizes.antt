@@ -1,5 +1,5 @@
--- The size of a question whose log gets a further alarm or pair, and that the names of alarms don't matter for it.
-use Rattle.std.proofs.Common.{◌≡◌, ◌∙◌, ℕ, zero, suc, ◌+◌, ◌*◌, ◌^◌, Bool, cond, List, [], ◌∷◌, ◌++◌, length, map, count_by, sum_by, refl, sym, ap, arith, length-append, option_map, slice_get, unwrap_or}
+-- The size of a question whose log gets a further alarm or pair.
+use Rattle.std.proofs.Common.{◌≡◌, ◌∙◌, ℕ, ◌+◌, ◌*◌, ◌^◌, Bool, cond, List, [], ◌∷◌, ◌++◌, length, count_by, sum_by, ap, arith, length-append}
 use Rattle.alarm_session.specs.Labelled.{labelled_count}
 use Rattle.des_base.specs.Lists.{numbers_below}
 use Rattle.des_net.specs.Network.{Net}
@@ -7,11 +7,8 @@ use Rattle.des_net.specs.QuestionSize.{component_sizes, counter_size}
 use Rattle.question_clauses.proofs.Drafts.{doubtful_more, longer, same_count, sum_more}
 use Rattle.question_clauses.specs.Additions.{alarm_added, pair_added, with_addition}
 use Rattle.log_encode.proofs.TakenLemmas.{suits_new}
-use Rattle.log_encode.proofs.WrittenLemmas.{count_same}
-use Rattle.log_encode.specs.CodedLog.{nameless, without_names}
 use Rattle.log_order.specs.Log.{Log, Alarm, an_alarm}
 use Rattle.replay.specs.QuestionSize.{alarm_sizes, doubtful_count, matching_count, question_size}
-use Rattle.run_decode.proofs.Nameless.{nameless_doubtful}
 use Rattle.des_base.proofs.Powers.{square}
 
 -- ---- an alarm
@@ -45,23 +42,3 @@ size_with_pair net log n i j =
   where
     spread_out : (k a b c f : ℕ) → k * (a + b + (c + 1)) + f ≡ k * (a + b + c) + f + k
     spread_out k a b c f = grind arith
-
--- ---- the names of alarms don't matter
-
-same_labels : (alarms : List Alarm) (i : ℕ) → unwrap_or (option_map (λ (a : Alarm). a.labels) (slice_get alarms i)) [] ≡ unwrap_or (option_map (λ (a : Alarm). a.labels) (slice_get (map (λ (a : Alarm). nameless a.labels a.doubtful) alarms) i)) []
-same_labels [] i = refl
-same_labels (x ∷ alarms) zero = refl
-same_labels (x ∷ alarms) (suc i) = same_labels alarms i
-
-same_matching : (net : Net) (log : Log) (i : ℕ) → matching_count net log i ≡ matching_count net (without_names log) i
-same_matching net log i = ap (λ ls. labelled_count net ls) (same_labels log.alarms i)
-
-pub nameless_sizes : (net : Net) (log : Log) → alarm_sizes net log ≡ alarm_sizes net (without_names log)
-nameless_sizes net log =
-    ap (λ (f : ℕ → ℕ). sum_by f (numbers_below (length log.alarms))) (λ j. λ i. same_matching net log i j ^ 2 + 1)
-    ∙ ap (λ k. sum_by (λ i. matching_count net (without_names log) i ^ 2 + 1) (numbers_below k)) (sym (count_same log))
-
-pub nameless_size : (net : Net) (log : Log) (n : ℕ) → question_size net log n ≡ question_size net (without_names log) n
-nameless_size net log n =
-    ap (λ k. n * (component_sizes net + k + length log.pairs) + (counter_size net n + 256 * doubtful_count log)) (nameless_sizes net log)
-    ∙ ap (λ k. n * (component_sizes net + alarm_sizes net (without_names log) + length log.pairs) + (counter_size net n + 256 * k)) (nameless_doubtful log)

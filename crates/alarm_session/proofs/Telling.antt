@@ -1,35 +1,30 @@
 -- What is true of a session's book: it is lean, and its axioms pose the question of the log.
 use Rattle.std.proofs.Common.{◌≡◌, ◌∙◌, ℕ, ◌+◌, ◌*◌, List, length, None, sym, ap, subst, arith, append-nil}
 use Rattle.std.proofs.Math.Nat.{mul-le-mul_right}
-use Rattle.alarm_session.proofs.Sizes.{nameless_sizes}
 use Rattle.alarm_session.specs.Session.{IsKept, IsLean, Poses}
 use Rattle.alarm_session.specs.declared.kept.Kept.{Kept}
 use Rattle.des_net.specs.Network.{Net, IsNetwork}
-use Rattle.des_net.specs.QuestionSize.{component_sizes, fault_event_count}
+use Rattle.des_net.specs.QuestionSize.{fault_event_count}
 use Rattle.least_faults.proofs.Posing.{poses}
 use Rattle.least_faults.specs.Bounds.{coded_clauses}
 use Rattle.least_faults.specs.Evidence.{IsPosed}
 use Rattle.least_faults.specs.Parts.{meanings_of_parts}
 use Rattle.question_clauses.specs.LogClauses.{guard_literals}
-use Rattle.log_encode.proofs.WrittenLemmas.{count_same}
-use Rattle.log_encode.specs.CodedLog.{read_meanings, without_names}
+use Rattle.log_encode.specs.CodedLog.{read_meanings}
 use Rattle.log_order.specs.Log.{IsValidLog}
 use Rattle.proof_ledger.specs.Book.{axioms_of}
 use Rattle.prop_core.specs.VariableNames.{ReadsAs}
 use Rattle.prop_core.specs.declared.lit.Lit.{Lit}
-use Rattle.replay.specs.QuestionSize.{alarm_sizes, doubtful_count}
+use Rattle.replay.specs.QuestionSize.{doubtful_count}
 use Rattle.run_decode.proofs.FewNames.{inputs_are_counted}
-use Rattle.run_decode.proofs.Nameless.{nameless_doubtful}
 
 module _ {R : Type 0} (net : Net) (n : ℕ) (kept : Kept R) (is : IsKept net n kept) where
-  -- the clauses of the steps and of the log, by the network and the log with its names
+  -- the clauses of the steps and of the log, by the network and the log
   coded_is : coded_clauses kept.parts.step.net kept.parts.code.coded.log kept.parts.step.steps ≡ coded_clauses net kept.log n
   coded_is =
       ap (λ (m : Net). coded_clauses m kept.parts.code.coded.log kept.parts.step.steps) is.of_log.belong.of_steps
       ∙ ap (λ k. coded_clauses net kept.parts.code.coded.log k) is.of_log.time
       ∙ ap (λ l. coded_clauses net l n) is.of_log.belong.same_log
-      ∙ ap (λ k. 12 * (n * (component_sizes net + k + length kept.log.pairs) + (component_sizes net + length (without_names kept.log).alarms + length kept.log.pairs))) (sym (nameless_sizes net kept.log))
-      ∙ ap (λ k. 12 * (n * (component_sizes net + alarm_sizes net kept.log + length kept.log.pairs) + (component_sizes net + k + length kept.log.pairs))) (count_same kept.log)
 
   inputs_are : length kept.parts.counter.inputs ≡ fault_event_count net * n + doubtful_count kept.log
   inputs_are =
@@ -37,7 +32,6 @@ module _ {R : Type 0} (net : Net) (n : ℕ) (kept : Kept R) (is : IsKept net n k
       ∙ ap (λ (m : Net). fault_event_count m * kept.parts.step.steps + doubtful_count kept.parts.code.coded.log) is.of_log.belong.of_steps
       ∙ ap (λ k. fault_event_count net * k + doubtful_count kept.parts.code.coded.log) is.of_log.time
       ∙ ap (λ l. fault_event_count net * n + doubtful_count l) is.of_log.belong.same_log
-      ∙ ap (λ k. fault_event_count net * n + k) (sym (nameless_doubtful kept.log))
 
   pub book_lean : IsLean kept.book.entries net kept.log n
   book_lean =

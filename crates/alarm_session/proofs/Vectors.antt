@@ -1,13 +1,12 @@
 -- Refusals and logs of worked scripts.
 use Rattle.std.proofs.Common.{◌≡◌, ℕ, true, false, List, [], ◌∷◌, None, Some, refl}
 use Rattle.std.specs.Prelude.{codes}
-use Rattle.alarm_session.specs.Additions.{alarm_addition}
 use Rattle.alarm_session.specs.Refusals.{refusal_number, refusal_of}
 use Rattle.alarm_session.specs.Rows.{log_after_rows, row_refusal, script_built}
 use Rattle.alarm_session.specs.declared.refusal.SessionRefusal.TheVariants.{Double, Unknown, Cycle, NoLabels, TooLarge}
 use Rattle.des_net.specs.Models.{masked, pump}
 use Rattle.least_faults.specs.Columns.{columns_built}
-use Rattle.question_clauses.specs.Additions.{pair_added}
+use Rattle.question_clauses.specs.Additions.{alarm_added, pair_added}
 use Rattle.log_csv.specs.declared.row.Row.{Row}
 use Rattle.log_csv.specs.declared.row.Row.TheVariants.{Alarm, Maybe, Before, Ask}
 use Rattle.log_order.specs.Adding.{alarm_refusal, before_refusal}
@@ -63,7 +62,7 @@ rows = Alarm x (codes "T" ∷ []) ∷ Ask ∷ Maybe y (codes "T" ∷ []) ∷ May
 
 pub script-built :
     script_built pump 1 rows (0 ∷ 1 ∷ 0 ∷ 0 ∷ 0 ∷ 0 ∷ 2 ∷ [])
-    ≡ columns_built (added_built (added_built (columns_built (added_built (question_built pump no_log 1 0) (alarm_addition (codes "T" ∷ []) false)) 1) (alarm_addition (codes "T" ∷ []) true)) (pair_added 1 0)) 2
+    ≡ columns_built (added_built (added_built (columns_built (added_built (question_built pump no_log 1 0) (alarm_added (an_alarm x (codes "T" ∷ []) false))) 1) (alarm_added (an_alarm y (codes "T" ∷ []) true))) (pair_added 1 0)) 2
 unfolding alarm_refusal before_refusal
 script-built = refl
 

@@ -1,6 +1,6 @@
 -- The rows of a script, carried out one after another by a session over one book.
 use Rattle.std.specs.Prelude.{◌≡◌, ◌≢◌, ℕ, List, [], ◌∷◌, drop, slice_index_or, Option, Some, None, Result, Ok, Err, is_some, true, false, if◌then◌else◌}
-use Rattle.alarm_session.specs.Additions.{alarm_addition, built_on, pair_addition}
+use Rattle.alarm_session.specs.Additions.{alarm_addition, built_on, next_id, pair_addition}
 use Rattle.alarm_session.specs.Refusals.{refusal_of_alarm, refusal_of_before, log_with, numbers_of}
 use Rattle.alarm_session.specs.Session.{KeepsLog, IsSessionBook, IsToldBy, IsUnanswered, Stage, first_stage}
 use Rattle.alarm_session.specs.declared.refusal.SessionRefusal.{SessionRefusal}
@@ -56,9 +56,9 @@ row_addition log Ask = None
 
 -- with a row that is accepted: with what it adds, and where it asks with this many further columns
 abbrev pub built_with_row : Log → BuiltQuestion → Row → ℕ → BuiltQuestion
-built_with_row log question (Alarm id labels) columns = built_on question (row_addition log (Alarm id labels))
-built_with_row log question (Maybe id labels) columns = built_on question (row_addition log (Maybe id labels))
-built_with_row log question (Before first second) columns = built_on question (row_addition log (Before first second))
+built_with_row log question (Alarm id labels) columns = built_on (next_id log.alarms (with_row log (Alarm id labels))) question (row_addition log (Alarm id labels))
+built_with_row log question (Maybe id labels) columns = built_on (next_id log.alarms (with_row log (Maybe id labels))) question (row_addition log (Maybe id labels))
+built_with_row log question (Before first second) columns = built_on (next_id log.alarms (with_row log (Before first second))) question (row_addition log (Before first second))
 built_with_row log question Ask columns = columns_built question columns
 
 -- after a row, which is the same where the row is refused,

@@ -1,6 +1,6 @@
 -- A session: a log that grows, and questions about it, over one book.
 use Rattle.std.specs.Prelude.{◌≡◌, ℕ, ◌+◌, ◌*◌, ◌≤◌, List, length, map, Option, None}
-use Rattle.alarm_session.specs.Additions.{built_on}
+use Rattle.alarm_session.specs.Additions.{built_on, next_id}
 use Rattle.alarm_session.specs.declared.kept.Kept.{Kept}
 use Rattle.alarm_session.specs.declared.kept.Drafted.{Drafted}
 use Rattle.des_base.specs.declared.TheConstants.{VAR_LIMIT}
@@ -98,7 +98,7 @@ pub record KeepsSetting {R : Type 0} (old new : SessionState R) : Type 0 where
 -- The log became this one, its question is built further with what was added, and few axioms were put into the book, and nothing else.
 pub record Becomes (net : Net) (n : ℕ) (wanted : Log) (added : Option Addition) (old new : Stage) : Type 0 where
   pub log : new.log ≡ wanted
-  pub built : new.built ≡ built_on old.built added
+  pub built : new.built ≡ built_on (next_id old.log.alarms wanted) old.built added
   pub few : AddsFew net n old.log wanted old.book new.book
 
 -- The log stays, its question perhaps gets further columns, and the book got entries, of which no more are learnt clauses than the budget says, each of them fresh.

@@ -1,15 +1,15 @@
 // Additions to the log of a session: what can be refused first, and then all of it.
-ghost use Rattle.std.specs.Prelude.{◌≡◌, false, length, IfOk, OnOk, OnErr, None, Some, true};
+ghost use Rattle.std.specs.Prelude.{◌≡◌, [], false, length, IfOk, OnOk, OnErr, None, Some, true};
 ghost use Rattle.des_base.specs.Refusing.{SucceedsUnless};
 ghost use Rattle.alarm_session.specs.Additions.{alarm_addition, pair_addition};
 ghost use Rattle.alarm_session.specs.Refusals.{refusal_of_alarm, refusal_of_before, is_new_pair, log_with, numbers_of, refusal_of_pair, refusal_with};
 ghost use Rattle.alarm_session.specs.Session.{Becomes, IsDraftedFor, IsFor, IsRankedKept, stage_of};
 ghost use Rattle.least_faults.specs.Parts.{AreParts};
 ghost use Rattle.least_faults.specs.declared.TheConstants.{MOST_SIZE};
-ghost use Rattle.question_clauses.specs.Additions.{pair_added};
-ghost use Rattle.log_order.specs.Adding.{with_alarm};
+ghost use Rattle.question_clauses.specs.Additions.{alarm_added, pair_added};
+ghost use Rattle.log_order.specs.Adding.{with_alarm, with_texts};
 ghost use Rattle.log_order.specs.Certainty.{leaves_doubt};
-ghost use Rattle.log_order.specs.Log.{has_pair};
+ghost use Rattle.log_order.specs.Log.{an_alarm, has_pair};
 ghost use Rattle.proof_ledger.specs.Book.{axioms_of};
 ghost use Rattle.replay.specs.QuestionSize.{question_size};
 
@@ -66,7 +66,7 @@ fn draft_alarm<R: Fn(u32) -> u64>(
     requires of_log { IsFor setting.net.now setting.steps kept.now }
     requires coded { AreParts kept.now.parts.step kept.now.parts.code.coded kept.now.parts.counter kept.now.parts.vars (axioms_of kept.now.book.entries) }
     ensures refused { SucceedsUnless (refusal_of_alarm setting.entry.net.now setting.entry.steps kept.now.log id.now labels.now doubtful) SessionRefusal.Memory result }
-    ensures drafted { IfOk result (IsDraftedFor setting.entry.net.now setting.entry.steps kept.now (alarm_addition labels.now doubtful) (with_alarm kept.now.log id.now labels.now doubtful)) }
+    ensures drafted { IfOk result (IsDraftedFor setting.entry.net.now setting.entry.steps kept.now (alarm_added (an_alarm id.now (with_texts [] labels.now) doubtful)) (with_alarm kept.now.log id.now labels.now doubtful)) }
 {
     setting.net.is_built();
     kept.log.is_whole();
@@ -82,7 +82,7 @@ fn draft_alarm<R: Fn(u32) -> u64>(
     let draft = kept
         .parts
         .code
-        .draft_alarm(setting.net, labels, doubtful, kept.parts.vars.count())?;
+        .draft_named_alarm(setting.net, id, labels, doubtful, kept.parts.vars.count())?;
     Ok(Drafted { draft, size })
 }
 

@@ -1,9 +1,10 @@
 // The log of two alarms on two components that don't meet, by a truth of its variables that was found by hand.
-ghost use Rattle.std.specs.Prelude.{◌≡◌, ◌+◌, ◌≤◌};
+ghost use Rattle.std.specs.Prelude.{◌≡◌, ◌+◌, ◌≤◌, []};
 ghost use Rattle.calls_question.specs.Grown.{IsGrown};
 ghost use Rattle.question_clauses.specs.Additions.{alarm_added};
-ghost use Rattle.log_encode.specs.CodedLog.{nameless, code_after};
+ghost use Rattle.log_encode.specs.CodedLog.{code_after};
 ghost use Rattle.log_encode.specs.Drafted.{IsDraftOf};
+ghost use Rattle.log_order.specs.Log.{an_alarm};
 
 use crate::models::{ModelCase, passes_on};
 use crate::truths::{all_true, clauses_true};
@@ -87,7 +88,7 @@ fn add(rt: &impl Abort, grown: &mut Grown, draft: Draft)
 #[tactic(auto, using(crate::proofs::Widths::alarm_fits))]
 fn alarm_draft(rt: &impl Abort, net: &Network, grown: &Grown, labels: &[Name], maybe: bool) -> Draft
     requires { IsGrown net.now grown.now.steps grown.now.vars grown.now.alarms grown.now.code.coded }
-    ensures drafted { IsDraftOf grown.now.code.coded (alarm_added (nameless labels.now maybe)) grown.now.vars result }
+    ensures drafted { IsDraftOf grown.now.code.coded (alarm_added (an_alarm [] labels.now maybe)) grown.now.vars result }
     ensures few { grown.now.vars + result.vars ≤ VAR_LIMIT }
 {
     let first = grown.vars.count();

@@ -12,7 +12,7 @@ use Rattle.least_faults.proofs.Solved.{CanSearch}
 use Rattle.least_faults.specs.Parts.{BelongTo}
 use Rattle.least_faults.specs.declared.parts.Parts.{Parts}
 use Rattle.question_clauses.specs.LogClauses.{guard_literals}
-use Rattle.log_encode.specs.CodedLog.{CodedLog, read_meanings, without_names, log_guards}
+use Rattle.log_encode.specs.CodedLog.{CodedLog, read_meanings, log_guards}
 use Rattle.log_order.specs.Log.{Log, IsValidLog}
 use Rattle.proof_ledger.specs.Book.{BookEntry, axioms_of, IsValidBook}
 use Rattle.prop_core.specs.Clauses.{Clause, HasValues, AllClausesTrue, AllLiteralsTrue, clause_true, literal_true, value_in}
@@ -47,7 +47,7 @@ use Rattle.sat_solve.proofs.Entries.{last_final_for, put_since}
 -- ---- what is assumed
 
 module _ (cost : ℕ → ℕ) (steps : CodedSteps) (code : CodedLog) (counter : CounterState) (vars : ℕ) (axioms : List Clause) (scale : Scale) (parts : AreWeighedParts cost steps code counter vars axioms scale) (net : Net) (log : Log) (of_net : steps.net ≡ net)
-    (network : IsNetwork net) (valid : IsValidLog log) (same : code.log ≡ without_names log) (read : ReadsAs (read_meanings code) (log_guards code) (guard_literals code.net code.log)) where
+    (network : IsNetwork net) (valid : IsValidLog log) (same : code.log ≡ log) (read : ReadsAs (read_meanings code) (log_guards code) (guard_literals code.net code.log)) where
   -- within each bound that may be asked for
   pub told : (bound : Option ℕ) → IfSome bound (MayBound scale) → PoseCostQuestion (record { net = net; cost = cost; log = log; steps = steps.steps }) bound axioms (assumed_at code scale bound)
   told bound may =

@@ -6,7 +6,7 @@ use Rattle.card_counter.specs.CounterState.{CounterState, negative}
 use Rattle.des_net.specs.Network.{IsNetwork}
 use Rattle.event_costs.specs.declared.TheConstants.{MOST_COST}
 use Rattle.question_clauses.specs.LogClauses.{guard_literals}
-use Rattle.log_encode.specs.CodedLog.{CodedLog, read_meanings, without_names, log_guards}
+use Rattle.log_encode.specs.CodedLog.{CodedLog, read_meanings, log_guards}
 use Rattle.log_order.specs.Log.{Log, IsValidLog}
 use Rattle.proof_ledger.specs.Book.{BookEntry}
 use Rattle.prop_core.specs.Clauses.{Clause, AllClausesTrue, literal_true}
@@ -32,7 +32,7 @@ use Rattle.prop_core.proofs.Premises.{negated}
 
 -- without a bound, and within one that may be asked for
 pub told_at : (cost : ℕ → ℕ) (steps : CodedSteps) (code : CodedLog) (counter : CounterState) (vars : ℕ) (axioms : List Clause) (scale : Scale) (log : Log) → AreWeighedParts cost steps code counter vars axioms scale →
-    IsNetwork steps.net → IsValidLog log → code.log ≡ without_names log → ReadsAs (read_meanings code) (log_guards code) (guard_literals code.net code.log) → (bound : Option ℕ) → IfSome bound (MayBound scale) →
+    IsNetwork steps.net → IsValidLog log → code.log ≡ log → ReadsAs (read_meanings code) (log_guards code) (guard_literals code.net code.log) → (bound : Option ℕ) → IfSome bound (MayBound scale) →
     PosesCosts steps.net cost log steps.steps bound axioms (assumed_at code scale bound)
 told_at cost steps code counter vars axioms scale log parts network valid same read None may = (tells_costs cost steps code counter vars axioms scale parts log network valid same read).unbounded
 told_at cost steps code counter vars axioms scale log parts network valid same read (Some b) may = (tells_costs cost steps code counter vars axioms scale parts log network valid same read).bounded b may.few may.some

@@ -1,19 +1,17 @@
 -- Parts with a scale beside them ask a question of costs, whatever the names of the log's alarms.
-use Rattle.std.proofs.Common.{◌≡◌, ◌∙◌, ◌⊎◌, inl, inr, ℕ, ◌≤◌, ◌<◌, List, ◌++◌, length, map, Option, Some, None, refl, sym, ap, subst, arith, Contains, ◌+◌, length-append}
+use Rattle.std.proofs.Common.{◌≡◌, ◌∙◌, ◌⊎◌, inl, inr, ℕ, ◌≤◌, ◌<◌, List, ◌++◌, length, map, Option, Some, None, refl, sym, ap, subst, arith, Contains, ◌+◌}
 use Rattle.std.specs.List.{AllZip}
-use Rattle.std.proofs.lemmas.List.{length-map}
 use Rattle.std.proofs.lemmas.List.Elements.{Contains-append_left, Contains-append_right, Contains-append_cases}
 use Rattle.card_counter.specs.CounterState.{CounterState, counter_meanings}
 use Rattle.des_net.specs.Network.{IsNetwork}
 use Rattle.least_faults.proofs.Below.{AreBelow, names_below}
 use Rattle.question_clauses.specs.LogClauses.{guard_literals, doubtful_alarms}
-use Rattle.log_encode.specs.CodedLog.{CodedLog, read_meanings, without_names, log_meanings, log_guards}
+use Rattle.log_encode.specs.CodedLog.{CodedLog, read_meanings, log_meanings, log_guards}
 use Rattle.question_clauses.specs.LogCodes.{AreAmong}
 use Rattle.log_order.specs.Log.{Log, IsValidLog}
 use Rattle.question_clauses.proofs.LogCodes.{named_entry}
 use Rattle.prop_core.specs.Clauses.{Clause}
-use Rattle.prop_core.specs.VariableNames.{Meaning, dropped, meaning_of, ReadsAs, named_clause, yes}
-use Rattle.run_decode.proofs.Nameless.{alarm_names_dont_matter, nameless_inputs}
+use Rattle.prop_core.specs.VariableNames.{Meaning, meaning_of, ReadsAs, named_clause}
 use Rattle.run_decode.proofs.RunNames.{inputs_read}
 use Rattle.run_decode.proofs.WholeNames.{together_one_naming, together_ask}
 use Rattle.run_decode.specs.Drawn.{fault_inputs}
@@ -21,7 +19,6 @@ use Rattle.run_decode.specs.Question.{Asks}
 use Rattle.run_decode.specs.Tells.{AreBoth}
 use Rattle.run_decode.specs.WholeNaming.{whole_meanings}
 use Rattle.step_encode.specs.Coded.{CodedSteps, code_grid, code_meanings}
-use Rattle.step_encode.specs.FaultInputs.{fault_meanings}
 use Rattle.weight_counter.proofs.Written.{scales_are_exact}
 use Rattle.weight_counter.specs.Scales.{place_variable, scale_clauses}
 use Rattle.weight_counter.specs.declared.scale.Scale.{Scale}
@@ -50,25 +47,10 @@ module _ (cost : ℕ → ℕ) (steps : CodedSteps) (code : CodedLog) (counter : 
   below : AreBelow scale.first (whole_meanings steps code counter)
   below = names_below steps code counter scale.first parts.own parts.coded
 
-  -- as many alarms of the log are doubtful as of the one that is coded
-  doubtful_same : (log : Log) → code.log ≡ without_names log → length (doubtful_alarms code.log) ≡ length (doubtful_alarms log)
-  doubtful_same log same =
-      let whole = ap length (nameless_inputs steps.net log steps.steps) in
-      let one = inputs_count log in
-      let other = inputs_count (without_names log) in
-      let moved = ap (λ l. length (doubtful_alarms l)) same in
-      omega (arith, whole, one, other, moved)
-    where
-      inputs_count : (l : Log) → length (fault_inputs steps.net l steps.steps) ≡ length (fault_meanings steps.net steps.steps) + length (doubtful_alarms l)
-      inputs_count l =
-          length-map (fault_meanings steps.net steps.steps ++ map (λ i. dropped i) (doubtful_alarms l)) yes
-          ∙ length-append (fault_meanings steps.net steps.steps) (map (λ i. dropped i) (doubtful_alarms l))
-          ∙ ap (λ k. length (fault_meanings steps.net steps.steps) + k) (length-map (doubtful_alarms l) (λ i. dropped i))
-
   log_among : AreAmong (log_meanings code) (whole_meanings steps code counter)
   log_among entry in' = Contains-append_right (code_meanings steps) (log_meanings code ++ counter_meanings counter) entry (Contains-append_left (log_meanings code) (counter_meanings counter) entry in')
 
-  inputs_named : (log : Log) → code.log ≡ without_names log → AllZip (IsInput (whole_meanings steps code counter)) parts.inputs (named_weights steps.net cost log steps.steps)
+  inputs_named : (log : Log) → code.log ≡ log → AllZip (IsInput (whole_meanings steps code counter)) parts.inputs (named_weights steps.net cost log steps.steps)
   inputs_named log same =
       let weighted = parts.weighted in
       let names = whole_meanings steps code counter in
@@ -77,17 +59,17 @@ module _ (cost : ℕ → ℕ) (steps : CodedSteps) (code : CodedLog) (counter : 
       subst (λ (xs : List Weighted). AllZip (IsInput names) xs (named_weights steps.net cost log steps.steps)) (sym weighted.whole)
       (zip_inputs names (fault_weights steps.net (code_grid steps) cost ++ map weighs_one weighted.false_lits) (named_weights steps.net cost log steps.steps)
       (ap (named_clause names) (literals_are steps.net cost (code_grid steps) weighted.false_lits) ∙ read
-      ∙ ap Some (ap (λ l. fault_inputs steps.net l steps.steps) same ∙ sym (nameless_inputs steps.net log steps.steps) ∙ sym (names_are steps.net cost log steps.steps)))
-      (weights_are steps.net cost log steps.steps (code_grid steps) weighted.false_lits refl (false_count_is code.log (log_meanings code) weighted.false_lits weighted.read ∙ doubtful_same log same)))
+      ∙ ap Some (ap (λ l. fault_inputs steps.net l steps.steps) same ∙ sym (names_are steps.net cost log steps.steps)))
+      (weights_are steps.net cost log steps.steps (code_grid steps) weighted.false_lits refl (false_count_is code.log (log_meanings code) weighted.false_lits weighted.read ∙ ap (λ l. length (doubtful_alarms l)) same)))
 
-  -- they ask of a log whose alarms have names
-  pub asks_costs : (log : Log) → code.log ≡ without_names log → ReadsAs (read_meanings code) (log_guards code) (guard_literals code.net code.log) →
+  -- they ask of a log that is the coded one
+  pub asks_costs : (log : Log) → code.log ≡ log → ReadsAs (read_meanings code) (log_guards code) (guard_literals code.net code.log) →
       AsksCosts steps.net cost log steps.steps (whole_meanings steps code counter) scale axioms (log_guards code)
   asks_costs log same read =
       let names = whole_meanings steps code counter in
       let ask = together_ask steps code counter parts.own (log_guards code) parts.coded.together parts.coded.clauses read in record {
         clauses = parts.own;
-        asks = ((alarm_names_dont_matter steps.net log steps.steps).asks None names parts.own (log_guards code)).1 (subst (λ l. Asks steps.net l steps.steps None names parts.own (log_guards code)) same ask.unbounded);
+        asks = subst (λ l. Asks steps.net l steps.steps None names parts.own (log_guards code)) same ask.unbounded;
         inputs = parts.inputs;
         input_names = inputs_named log same;
         counted = parts.counted;
@@ -99,7 +81,7 @@ module _ (cost : ℕ → ℕ) (steps : CodedSteps) (code : CodedLog) (counter : 
       }
 
   -- so they tell what explains the log, within each total
-  pub tells_costs : (log : Log) → IsNetwork steps.net → IsValidLog log → code.log ≡ without_names log → ReadsAs (read_meanings code) (log_guards code) (guard_literals code.net code.log) →
+  pub tells_costs : (log : Log) → IsNetwork steps.net → IsValidLog log → code.log ≡ log → ReadsAs (read_meanings code) (log_guards code) (guard_literals code.net code.log) →
       TellsCosts steps.net cost log steps.steps scale axioms (log_guards code)
   tells_costs log network valid same read = costs_are_told steps.net cost log steps.steps (whole_meanings steps code counter) scale axioms (log_guards code) network valid (asks_costs log same read)
 

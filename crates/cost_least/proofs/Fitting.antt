@@ -9,7 +9,6 @@ use Rattle.des_net.specs.Building.{IsDraft}
 use Rattle.des_net.specs.Network.{Net}
 use Rattle.des_net.specs.QuestionSize.{fault_event_count}
 use Rattle.least_faults.proofs.Below.{names_below, read_below}
-use Rattle.least_faults.proofs.Bounded.{nameless_variables}
 use Rattle.least_faults.proofs.QuestionRoom.{question_room}
 use Rattle.least_faults.specs.Bounds.{question_variables}
 use Rattle.least_faults.specs.Parts.{AreParts}
@@ -21,7 +20,6 @@ use Rattle.prop_core.specs.Clauses.{Clause, HasValues}
 use Rattle.prop_core.specs.declared.lit.Lit.{Lit}
 use Rattle.replay.specs.QuestionSize.{doubtful_count}
 use Rattle.run_decode.proofs.FewNames.{inputs_are_counted}
-use Rattle.run_decode.proofs.Nameless.{nameless_doubtful}
 use Rattle.run_decode.proofs.RunNames.{inputs_read}
 use Rattle.run_decode.proofs.WholeNames.{together_one_naming}
 use Rattle.run_decode.specs.Decoding.{BelongTogether}
@@ -47,7 +45,7 @@ pub inputs_counted : (net : Net) (log : Log) (cost : ℕ → ℕ) (steps : Coded
 inputs_counted net log cost steps code inputs belong weighted =
     let n = steps.steps in
     let count = sym (length-map inputs (λ (x : Weighted). x.input)) ∙ inputs_are_counted steps code (map (λ (x : Weighted). x.input) inputs) (bare cost steps code inputs weighted)
-    ∙ ap (λ m. fault_event_count m * n + doubtful_count code.log) belong.of_steps ∙ ap (λ l. fault_event_count net * n + doubtful_count l) belong.same_log ∙ ap (λ d. fault_event_count net * n + d) (sym (nameless_doubtful log)) in
+    ∙ ap (λ m. fault_event_count m * n + doubtful_count code.log) belong.of_steps ∙ ap (λ l. fault_event_count net * n + doubtful_count l) belong.same_log in
     let turn : fault_event_count net * n ≡ n * fault_event_count net = grind arith in
     omega (arith, count, turn)
 
@@ -56,7 +54,7 @@ pub first_few : (net : Net) (log : Log) (steps : CodedSteps) (code : CodedLog) (
 first_few net log steps code counter vars axioms belong parts =
     let n = steps.steps in
     let variables = parts.bounded.variables in
-    let same = ap (λ m. question_variables m code.log n) belong.of_steps ∙ ap (λ l. question_variables net l n) belong.same_log ∙ sym (nameless_variables net log n) in
+    let same = ap (λ m. question_variables m code.log n) belong.of_steps ∙ ap (λ l. question_variables net l n) belong.same_log in
     omega (arith, variables, same)
 
 pub scale_fits : (net : Net) (log : Log) (cost : ℕ → ℕ) (steps : CodedSteps) (code : CodedLog) (counter : CounterState) (vars : ℕ) (axioms : List Clause) (inputs : List Weighted) → IsDraft net → length log.alarms ≤ 2000 → BelongTogether net log steps code →
@@ -66,7 +64,7 @@ scale_fits net log cost steps code counter vars axioms inputs draft alarms belon
     let count = inputs_counted net log cost steps code inputs belong weighted in
     let room = question_room net log n draft alarms time (omega (arith, size)) in
     let variables = parts.bounded.variables in
-    let same = ap (λ m. question_variables m code.log n) belong.of_steps ∙ ap (λ l. question_variables net l n) belong.same_log ∙ sym (nameless_variables net log n) in
+    let same = ap (λ m. question_variables m code.log n) belong.of_steps ∙ ap (λ l. question_variables net l n) belong.same_log in
     omega (arith, count, room, variables, same, size)
 
 each_below : (vars : ℕ) (xs : List Weighted) → HasValues vars (map (λ (x : Weighted). x.input) xs) → AllByRecursion (λ (x : Weighted). x.input.var < vars) xs

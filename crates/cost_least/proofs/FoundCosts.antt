@@ -3,16 +3,15 @@ use Rattle.std.proofs.Common.{◌≡◌, ◌∙◌, ℕ, ◌+◌, Bool, cond, Li
 use Rattle.std.specs.Prelude.{not}
 use Rattle.std.specs.List.{AllZip}
 use Rattle.std.proofs.lemmas.List.Sums.{sum_by-cons}
-use Rattle.std.proofs.lemmas.List.{length-map}
 use Rattle.std.proofs.lemmas.List.Elements.{Contains-append_right}
 use Rattle.des_base.specs.Names.{AreDistinct}
 use Rattle.des_net.specs.Network.{Net, IsNetwork}
 use Rattle.des_net.specs.Width.{joined}
 use Rattle.question_clauses.specs.Decoded.{decoded, decoded_order}
 use Rattle.question_clauses.specs.LogCodes.{AreAmong}
-use Rattle.log_encode.specs.CodedLog.{CodedLog, without_names, log_meanings}
+use Rattle.log_encode.specs.CodedLog.{CodedLog, log_meanings}
 use Rattle.log_order.proofs.LeastOrder.{least_order-is}
-use Rattle.log_order.specs.Log.{Log, IsValidLog, ListsOnce}
+use Rattle.log_order.specs.Log.{Log, IsValidLog}
 use Rattle.log_order.specs.Adding.{names_of}
 use Rattle.log_order.specs.Order.{least_order}
 use Rattle.prop_core.proofs.NameLemmas.{values_match}
@@ -23,7 +22,7 @@ use Rattle.replay.specs.declared.run.RunStep.TheVariants.{Happens, Dropped}
 use Rattle.replay.specs.Matching.{is_real, order_of, IsWellMatched}
 use Rattle.replay.specs.Traced.{word_of}
 use Rattle.run_decode.proofs.DecodeNames.{run_clauses_hold}
-use Rattle.run_decode.proofs.DecodeOrder.{bare_valid, run_order}
+use Rattle.run_decode.proofs.DecodeOrder.{run_order}
 use Rattle.run_decode.proofs.DecodeRuns.{are_settled, run_word}
 use Rattle.run_decode.proofs.RunNames.{beside_one_naming, inputs_read}
 use Rattle.run_decode.proofs.RunsGiven.{decoded_by_name}
@@ -76,24 +75,19 @@ pub found_total : (net : Net) (cost : ℕ → ℕ) (log : Log) (steps : CodedSte
 found_total net cost log steps code value run inputs network valid once together is_true is weighted =
     let truth = truth_of steps code value in
     let n = steps.steps in
-    let bare = without_names log in
     let order = least_order (length log.alarms) log.pairs in
     let ordered = least_order-is (length log.alarms) log.pairs valid in
     let holds = subst (λ l. RunClausesHold net l n truth) together.same_log (run_clauses_hold net log steps code value together is_true) in
-    let listed : ListsOnce (length bare.alarms) order = subst (λ m. ListsOnce m order) (sym (count_bare log)) ordered.listed in
-    let settled = are_settled net bare n truth order holds.logged holds.guarded listed ordered.kept in
-    let given = decoded_by_name net bare n truth order network (bare_valid log valid) listed ordered.kept holds.stepped holds.logged holds.guarded in
-    let word = ap word_of is ∙ run_word net log truth order n settled listed.below in
+    let settled = are_settled net log n truth order holds.logged holds.guarded ordered.listed ordered.kept in
+    let given = decoded_by_name net log n truth order network valid ordered.listed ordered.kept holds.stepped holds.logged holds.guarded in
+    let word = ap word_of is ∙ run_word net log truth order n settled ordered.listed.below in
     let alarms = ap (order_of log) is ∙ run_order net log truth order n settled once ordered.listed.below in
     let naming = beside_one_naming steps code together.beside in
     let named = named_by cost steps code (run_meanings steps code) inputs naming.once naming.of_steps (log_among steps code) weighted in
     let weights = weigh_alike (run_meanings steps code) value truth (values_match (run_meanings steps code) naming.once value) inputs (named_weights steps.net cost code.log n) named in
-    ap (λ w. total net cost w (order_of log run)) word ∙ ap (λ o. total net cost (joined (decoded net bare truth order n)) o) alarms
-    ∙ costs_are_weights net cost bare n truth (decoded net bare truth order n) (decoded_order net bare truth order n) given.steps given.false_alarms
-    ∙ ap (λ m. weight_named truth (named_weights m cost bare n)) (sym together.of_steps) ∙ ap (λ l. weight_named truth (named_weights steps.net cost l n)) (sym together.same_log) ∙ sym weights
+    ap (λ w. total net cost w (order_of log run)) word ∙ ap (λ o. total net cost (joined (decoded net log truth order n)) o) alarms
+    ∙ costs_are_weights net cost log n truth (decoded net log truth order n) (decoded_order net log truth order n) given.steps given.false_alarms
+    ∙ ap (λ m. weight_named truth (named_weights m cost log n)) (sym together.of_steps) ∙ ap (λ l. weight_named truth (named_weights steps.net cost l n)) (sym together.same_log) ∙ sym weights
   where
-    count_bare : (l : Log) → length (without_names l).alarms ≡ length l.alarms
-    count_bare l = length-map l.alarms _
-
     log_among : (s : CodedSteps) (c : CodedLog) → AreAmong (log_meanings c) (run_meanings s c)
     log_among s c entry in' = Contains-append_right (code_meanings s) (log_meanings c) entry in'

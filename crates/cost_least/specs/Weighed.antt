@@ -8,7 +8,7 @@ use Rattle.event_costs.specs.declared.TheConstants.{MOST_COST}
 use Rattle.least_faults.specs.Parts.{AreParts}
 use Rattle.least_faults.specs.declared.parts.Parts.{Parts}
 use Rattle.question_clauses.specs.LogClauses.{guard_literals}
-use Rattle.log_encode.specs.CodedLog.{CodedLog, read_meanings, without_names, log_guards}
+use Rattle.log_encode.specs.CodedLog.{CodedLog, read_meanings, log_guards}
 use Rattle.log_order.specs.Log.{Log, IsValidLog}
 use Rattle.prop_core.specs.VariableNames.{ReadsAs}
 use Rattle.proof_ledger.specs.Book.{BookEntry, axioms_of, clauses_of}
@@ -100,7 +100,7 @@ assumed_at code scale bound = log_guards code ++ cost_limit scale bound
 
 -- ---- what they tell
 
--- Parts with a scale pose, with the guards of the log, what explains the log within each total, whatever the names of its alarms.
+-- Parts with a scale pose, with the guards of the log, what explains the log within each total.
 abbrev pub ScaledPartsTell : Type 0
 ScaledPartsTell = (cost : ℕ → ℕ) (steps : CodedSteps) (code : CodedLog) (counter : CounterState) (vars : ℕ) (axioms : List Clause) (scale : Scale) (log : Log) → AreWeighedParts cost steps code counter vars axioms scale →
-    IsNetwork steps.net → IsValidLog log → code.log ≡ without_names log → ReadsAs (read_meanings code) (log_guards code) (guard_literals code.net code.log) → TellsCosts steps.net cost log steps.steps scale axioms (log_guards code)
+    IsNetwork steps.net → IsValidLog log → code.log ≡ log → ReadsAs (read_meanings code) (log_guards code) (guard_literals code.net code.log) → TellsCosts steps.net cost log steps.steps scale axioms (log_guards code)

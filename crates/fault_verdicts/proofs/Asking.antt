@@ -27,7 +27,6 @@ use Rattle.prop_core.specs.Clauses.{Clause, HasValues, negation}
 use Rattle.prop_core.specs.VariableNames.{ReadsAs}
 use Rattle.prop_core.specs.declared.grid.Grid.{Grid}
 use Rattle.prop_core.specs.declared.lit.Lit.{Lit}
-use Rattle.run_decode.proofs.Nameless.{alarm_names_dont_matter}
 use Rattle.run_decode.proofs.WholeNames.{together_one_naming}
 use Rattle.run_decode.specs.Drawn.{at_most, fault_inputs}
 use Rattle.run_decode.specs.Question.{Asks}
@@ -55,9 +54,8 @@ asks_beside : {R : Type 0} (may : R → ℕ → Type 0) (gives : R → ℕ → �
 asks_beside may gives parts book made net log k guards ready belong assumptions =
     subst (λ (net' : Net). AsksBeside net' log parts.step.steps k (meanings_of_parts parts) (code_grid parts.step) made (axioms_of book) guards) belong.of_steps (record {
       clauses = ready.own;
-      asks = ((alarm_names_dont_matter parts.step.net log parts.step.steps).asks (Some k) (meanings_of_parts parts) ready.own guards).1
-          (subst (λ l. Asks parts.step.net l parts.step.steps (Some k) (meanings_of_parts parts) ready.own guards) belong.same_log
-          (asks_by_number parts.step parts.code.coded parts.counter ready.own k (length parts.counter.inputs) guards refl ready.beside.coded.together ready.clauses assumptions));
+      asks = subst (λ l. Asks parts.step.net l parts.step.steps (Some k) (meanings_of_parts parts) ready.own guards) belong.same_log
+          (asks_by_number parts.step parts.code.coded parts.counter ready.own k (length parts.counter.inputs) guards refl ready.beside.coded.together ready.clauses assumptions);
       gridded = gridded parts.step parts.code.coded parts.counter parts.vars ready.beside.coded;
       made_new = ready.made_new;
       both = ready.both;

@@ -13,9 +13,8 @@ use Rattle.fault_verdicts.specs.Judging.{at_most_of}
 use Rattle.least_faults.specs.Asking.{AreAssumptions, bound_part}
 use Rattle.question_clauses.proofs.Lists.{all_at}
 use Rattle.question_clauses.specs.Decoded.{decoded}
-use Rattle.log_encode.specs.CodedLog.{CodedLog, without_names}
+use Rattle.log_encode.specs.CodedLog.{CodedLog}
 use Rattle.log_order.proofs.LeastOrder.{least_order-is}
-use Rattle.log_encode.proofs.WrittenLemmas.{count_same}
 use Rattle.log_order.specs.Log.{Keeps, ListsOnce, Log, IsValidLog}
 use Rattle.log_order.specs.Order.{least_order}
 use Rattle.prop_core.specs.Clauses.{Clause, clause_true, literal_true, AllClausesTrue, AllLiteralsTrue}
@@ -26,7 +25,6 @@ use Rattle.replay.specs.Traced.{word_of}
 use Rattle.replay.specs.declared.run.RunStep.{RunStep}
 use Rattle.question_clauses.specs.Steps.{AreSteps}
 use Rattle.run_decode.proofs.DecodeNames.{run_clauses_hold}
-use Rattle.run_decode.proofs.DecodeOrder.{bare_valid}
 use Rattle.run_decode.proofs.DecodeRuns.{are_settled, run_word}
 use Rattle.run_decode.proofs.RunNames.{truths_are_read}
 use Rattle.run_decode.proofs.RunsGiven.{decoded_by_name}
@@ -53,26 +51,26 @@ run_has net log steps code value run network valid together is_true is e known =
     order : List ℕ
     order = least_order (length log.alarms) log.pairs
 
-    holds : RunClausesHold net (without_names log) n truth
+    holds : RunClausesHold net log n truth
     holds = subst (λ l. RunClausesHold net l n truth) together.same_log (run_clauses_hold net log steps code value together is_true)
 
-    listed : ListsOnce (length (without_names log).alarms) order
-    listed = subst (λ m. ListsOnce m order) (sym (count_same log)) (least_order-is (length log.alarms) log.pairs valid).listed
+    listed : ListsOnce (length log.alarms) order
+    listed = (least_order-is (length log.alarms) log.pairs valid).listed
 
-    kept : Keeps order (without_names log).pairs
+    kept : Keeps order log.pairs
     kept = (least_order-is (length log.alarms) log.pairs valid).kept
 
     read : (t : ℕ) → t < n → truth (happens e (suc t)) ≡ value (grid_variable (code_grid steps) e (suc t))
     read t less = (truths_are_read steps code value together.beside).events e t (subst (λ (m : Net). e < length m.events) (sym together.of_steps) known) less
 
     pieces : List (List ℕ)
-    pieces = decoded net (without_names log) truth order n
+    pieces = decoded net log truth order n
 
     word : word_of (decoded_run net log truth order n) ≡ joined pieces
-    word = run_word net log truth order n (are_settled net (without_names log) n truth order holds.logged holds.guarded listed kept) listed.below
+    word = run_word net log truth order n (are_settled net log n truth order holds.logged holds.guarded listed kept) listed.below
 
     are : AreSteps net n truth pieces
-    are = (decoded_by_name net (without_names log) n truth order network (bare_valid log valid) listed kept holds.stepped holds.logged holds.guarded).steps
+    are = (decoded_by_name net log n truth order network valid listed kept holds.stepped holds.logged holds.guarded).steps
 
 -- ---- clauses of the parts and guards that are true
 

@@ -36,7 +36,6 @@ use Rattle.prop_core.specs.declared.grid.Grid.{Grid}
 use Rattle.prop_core.specs.declared.lit.Lit.{Lit}
 use Rattle.replay.specs.QuestionSize.{doubtful_count, question_size}
 use Rattle.run_decode.proofs.FewNames.{inputs_are_counted}
-use Rattle.run_decode.proofs.Nameless.{nameless_doubtful}
 use Rattle.run_decode.proofs.WholeNames.{together_one_naming}
 use Rattle.run_decode.specs.QuestionAxioms.{BuiltQuestion}
 use Rattle.run_decode.specs.Tells.{AreBoth}
@@ -193,8 +192,7 @@ ready_at_first may gives parts book net log ready belong built size = record {
     few_inputs =
         let counted = inputs_are_counted parts.step parts.code.coded parts.counter.inputs ready.coded.together.inputs
         ∙ ap (λ (m : Net). fault_event_count m * parts.step.steps + doubtful_count parts.code.coded.log) belong.of_steps
-        ∙ ap (λ l. fault_event_count net * parts.step.steps + doubtful_count l) belong.same_log
-        ∙ ap (λ k. fault_event_count net * parts.step.steps + k) (sym (nameless_doubtful log)) in
+        ∙ ap (λ l. fault_event_count net * parts.step.steps + doubtful_count l) belong.same_log in
         let inputs = ap (λ k. 256 * k) counted in
         let spread = turn (fault_event_count net) parts.step.steps (doubtful_count log) in
         omega (arith, inputs, spread, size)

@@ -4,7 +4,7 @@ use Rattle.std.specs.List.{AllByRecursion}
 use Rattle.des_base.proofs.Elements.{all_append}
 use Rattle.des_net.specs.Network.{Net, is_fault}
 use Rattle.fault_verdicts.specs.Asked.{some_step_clause}
-use Rattle.fault_verdicts.specs.Riders.{AreAskedOf, IsBuiltWith, IsOfFault, Rider, a_column, an_event, event_built, nameless_built, rider_built, riders_built}
+use Rattle.fault_verdicts.specs.Riders.{AreAskedOf, IsBuiltWith, IsOfFault, Rider, a_column, an_event, event_built, rider_built, riders_built}
 use Rattle.least_faults.proofs.ColumnsBuilt.{question_columns}
 use Rattle.least_faults.specs.Columns.{columns_built}
 use Rattle.least_faults.specs.Growing.{KeepsQuestion}
@@ -58,8 +58,8 @@ asked_alone net log n columns axioms is = record {
 }
 
 -- of parts that belong to network and log
-of_parts : {R : Type 0} (net : Net) (log : Log) (n : ℕ) (parts : Parts R) → BelongTo net log parts → parts.step.steps ≡ n → nameless_built parts.step.net parts.code.coded.log parts.step.steps ≡ question_built net log n 0
-of_parts net log n parts belong time = λ i. nameless_built (belong.of_steps i) (belong.same_log i) (time i)
+of_parts : {R : Type 0} (net : Net) (log : Log) (n : ℕ) (parts : Parts R) → BelongTo net log parts → parts.step.steps ≡ n → question_built parts.step.net parts.code.coded.log parts.step.steps 0 ≡ question_built net log n 0
+of_parts net log n parts belong time = λ i. question_built (belong.of_steps i) (belong.same_log i) (time i) 0
 
 pub built_at_first : {R : Type 0} (net : Net) (log : Log) (parts : Parts R) (book : List BookEntry) → BelongTo net log parts → IsBuilt net log parts.step.steps parts book → IsBuiltWith parts book
 built_at_first net log parts book belong built = record {
@@ -96,10 +96,10 @@ built_with_columns old new book entries keeps built = record {
     columns = length keeps.counter.columns
 
     first : BuiltQuestion
-    first = nameless_built old.step.net old.code.coded.log old.step.steps
+    first = question_built old.step.net old.code.coded.log old.step.steps 0
 
-    same : nameless_built old.step.net old.code.coded.log old.step.steps ≡ nameless_built new.step.net new.code.coded.log new.step.steps
-    same = sym (λ i. nameless_built (ap (λ (s : CodedSteps). s.net) keeps.step i) (ap (λ (c : LogCodeState). c.coded.log) keeps.code i) (ap (λ (s : CodedSteps). s.steps) keeps.step i))
+    same : question_built old.step.net old.code.coded.log old.step.steps 0 ≡ question_built new.step.net new.code.coded.log new.step.steps 0
+    same = sym (λ i. question_built (ap (λ (s : CodedSteps). s.net) keeps.step i) (ap (λ (c : LogCodeState). c.coded.log) keeps.code i) (ap (λ (s : CodedSteps). s.steps) keeps.step i) 0)
 
 pub built_by_solver : {R : Type 0} (parts : Parts R) (solver : SolverState R) (book entries : List BookEntry) → axioms_of entries ≡ axioms_of book → IsBuiltWith parts book → IsBuiltWith (record parts { solver = solver }) entries
 built_by_solver parts solver book entries same built = record {
@@ -116,7 +116,7 @@ built_with_literal parts solver vars book entries e known fault is pushed built 
   determined =
       (λ i. record { steps = parts.step; code = parts.code.coded; counter = parts.counter; vars = is i; axioms = axioms i })
       ∙ ap (λ (q : BuiltQuestion). event_built q e) built.determined
-      ∙ sym (riders_more (nameless_built parts.step.net parts.code.coded.log parts.step.steps) built.riders (an_event e));
+      ∙ sym (riders_more (question_built parts.step.net parts.code.coded.log parts.step.steps 0) built.riders (an_event e));
 }
   where
     axioms : axioms_of entries ≡ axioms_of book ++ some_step_clause (code_grid parts.step) (parts.vars, e) ∷ []

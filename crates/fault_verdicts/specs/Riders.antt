@@ -5,12 +5,11 @@ use Rattle.des_net.specs.Network.{Net, is_fault}
 use Rattle.fault_verdicts.specs.Asked.{some_step_clause}
 use Rattle.least_faults.specs.Parts.{built_of}
 use Rattle.least_faults.specs.declared.parts.Parts.{Parts}
-use Rattle.log_encode.specs.BuiltLog.{built_log}
 use Rattle.log_order.specs.Log.{Log}
 use Rattle.proof_ledger.specs.Book.{BookEntry}
 use Rattle.prop_core.specs.Clauses.{Clause}
-use Rattle.run_decode.specs.QuestionAxioms.{BuiltQuestion, alone_built, column_built, question_built, steps_built}
-use Rattle.step_encode.specs.Coded.{code_grid, variable_count}
+use Rattle.run_decode.specs.QuestionAxioms.{BuiltQuestion, column_built, question_built}
+use Rattle.step_encode.specs.Coded.{code_grid}
 
 -- a further column of the counter, or a variable that is made for an event
 pub data Rider : Type 0 where
@@ -42,12 +41,8 @@ pub record AreAskedOf (net : Net) (log : Log) (n : ℕ) (axioms : List Clause) :
   pub faults : AllByRecursion (IsOfFault net) riders
   pub listed : axioms ≡ (riders_built (question_built net log n 0) riders).axioms
 
--- the question without columns, about a log whose alarms have no names
-abbrev pub nameless_built : Net → Log → ℕ → BuiltQuestion
-nameless_built net log n = alone_built (steps_built net n) (built_log net (code_grid (steps_built net n)) (variable_count net n) log)
-
 -- Parts and axioms are those of the question that was built first, with columns and variables for fault events that came to it one after another.
 pub record IsBuiltWith {R : Type 0} (parts : Parts R) (book : List BookEntry) : Type 0 where
   pub riders : List Rider
   pub faults : AllByRecursion (IsOfFault parts.step.net) riders
-  pub determined : built_of parts book ≡ riders_built (nameless_built parts.step.net parts.code.coded.log parts.step.steps) riders
+  pub determined : built_of parts book ≡ riders_built (question_built parts.step.net parts.code.coded.log parts.step.steps 0) riders

@@ -19,7 +19,7 @@ use Rattle.least_faults.specs.Evidence.{IsPosed}
 use Rattle.least_faults.specs.Growing.{KeepsQuestion}
 use Rattle.least_faults.specs.Parts.{AreParts, AreReady, BelongTo, IsBuilt, built_of, meanings_of_parts}
 use Rattle.question_clauses.specs.LogClauses.{guard_literals}
-use Rattle.log_encode.specs.CodedLog.{CodedLog, without_names}
+use Rattle.log_encode.specs.CodedLog.{CodedLog}
 use Rattle.log_order.specs.Log.{Log, IsValidLog}
 use Rattle.proof_ledger.specs.Book.{BookEntry, axiomatic, axioms_of, clauses_of}
 use Rattle.proof_text.specs.CnfText.{Formula, formula}
@@ -27,7 +27,6 @@ use Rattle.proof_text.specs.Refutation.{unit_clauses}
 use Rattle.prop_core.specs.Clauses.{Clause, HasValues, literal_true, clause_true, AllClausesTrue, AllLiteralsTrue}
 use Rattle.prop_core.specs.VariableNames.{Meaning, NamedLiteral, ReadsAs, named_clause}
 use Rattle.prop_core.specs.declared.lit.Lit.{Lit}
-use Rattle.run_decode.proofs.Nameless.{alarm_names_dont_matter}
 use Rattle.run_decode.proofs.WholeNames.{together_ask, together_one_naming}
 use Rattle.run_decode.specs.Drawn.{bound_literals, fault_inputs, at_most}
 use Rattle.run_decode.specs.Faithful.{IsFaithful, IsExplainedWithin}
@@ -111,7 +110,7 @@ asks_within net log n bound names clauses guards none asks = record {
     column (Some k) = λ some. let count = ap length none in absurd (omega (arith, some, count))
 
 module _ (steps : CodedSteps) (code : CodedLog) (counter : CounterState) (vars : ℕ) (axioms : List Clause) (parts : AreParts steps code counter vars axioms) (bound : Option ℕ) (assumed : List Lit) (log : Log)
-    (network : IsNetwork steps.net) (valid : IsValidLog log) (same : code.log ≡ without_names log) where
+    (network : IsNetwork steps.net) (valid : IsValidLog log) (same : code.log ≡ log) where
   -- the counter counts nothing
   uncounted : length counter.inputs ≡ 0 → AreAssumptions code counter None assumed → IsPosed (whole_meanings steps code counter) axioms assumed steps.net log steps.steps bound
   uncounted none assumptions =
@@ -121,8 +120,7 @@ module _ (steps : CodedSteps) (code : CodedLog) (counter : CounterState) (vars :
       (together_ask steps code counter axioms assumptions.guards parts.together parts.clauses assumptions.read).unbounded in
       let within = asks_within steps.net code.log steps.steps bound (whole_meanings steps code counter) axioms assumed named asks in
       asks_poses steps.net log steps.steps bound (whole_meanings steps code counter) axioms assumed network valid
-      (((alarm_names_dont_matter steps.net log steps.steps).asks bound (whole_meanings steps code counter) axioms assumed).1
-      (subst (λ l. Asks steps.net l steps.steps bound (whole_meanings steps code counter) axioms assumed) same within))
+      (subst (λ l. Asks steps.net l steps.steps bound (whole_meanings steps code counter) axioms assumed) same within)
 
   pub posed_by : AreAssumptions code counter (counted_bound counter bound) assumed → IsPosed (whole_meanings steps code counter) axioms assumed steps.net log steps.steps bound
   posed_by = by (nat_eq (length counter.inputs) 0) refl

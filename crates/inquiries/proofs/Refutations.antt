@@ -21,7 +21,7 @@ use Rattle.least_faults.specs.Evidence.{IsEvidence, IsPosed, is_final}
 use Rattle.least_faults.specs.Parts.{AreReady, BelongTo, IsBuilt, meanings_of_parts}
 use Rattle.question_clauses.proofs.LogCodes.{IsReadOf, named_entry, read_of}
 use Rattle.question_clauses.proofs.Guards.{literal_named}
-use Rattle.log_encode.specs.CodedLog.{CodedLog, log_meanings, read_meanings, without_names}
+use Rattle.log_encode.specs.CodedLog.{CodedLog, log_meanings, read_meanings}
 use Rattle.log_order.specs.Log.{Log, IsValidLog}
 use Rattle.proof_ledger.specs.Book.{BookEntry, axiomatic, final, mark, axiom_of, axioms_of, clause_of, clauses_of}
 use Rattle.proof_ledger.specs.Checking.{check_proof}
@@ -36,7 +36,6 @@ use Rattle.prop_core.specs.Listings.{literal_by}
 use Rattle.prop_core.specs.VariableNames.{Meaning, NamedLiteral, HasEachOnce, ReadsAs, named_clause, named_literal, no, reaches}
 use Rattle.prop_core.specs.declared.lit.Lit.{Lit}
 use Rattle.run_decode.proofs.Built.{columns_are_counted}
-use Rattle.run_decode.proofs.Nameless.{nameless_inputs}
 use Rattle.run_decode.proofs.RunNames.{is_step, log_entry, step_entry}
 use Rattle.run_decode.proofs.WholeNames.{together_one_naming}
 use Rattle.run_decode.specs.Drawn.{assumption_literals, at_most, fault_inputs}
@@ -156,14 +155,14 @@ read_length names (l ∷ clause) read h =
     let all = ap length parts.whole in
     omega (arith, rest, all)
 
-column_there : (steps : CodedSteps) (code : CodedLog) (counter : CounterState) (log : Log) (b : ℕ) (assumed : List Lit) → AreCodedTogether steps code counter → code.log ≡ without_names log → 0 < length counter.inputs →
+column_there : (steps : CodedSteps) (code : CodedLog) (counter : CounterState) (log : Log) (b : ℕ) (assumed : List Lit) → AreCodedTogether steps code counter → code.log ≡ log → 0 < length counter.inputs →
     ReadsAs (whole_meanings steps code counter) assumed (assumption_literals steps.net log steps.steps (Some b)) → b < length counter.columns
 column_there steps code counter log b assumed together same some reads = by (length (fault_inputs steps.net log steps.steps)) refl
   where
     count : length counter.inputs ≡ length (fault_inputs steps.net log steps.steps)
     count =
         read_length (whole_meanings steps code counter) counter.inputs (fault_inputs steps.net code.log steps.steps) (together_one_naming steps code counter together).of_faults
-        ∙ ap (λ (l : Log). length (fault_inputs steps.net l steps.steps)) same ∙ ap length (sym (nameless_inputs steps.net log steps.steps))
+        ∙ ap (λ (l : Log). length (fault_inputs steps.net l steps.steps)) same
 
     by : (m : ℕ) → length (fault_inputs steps.net log steps.steps) ≡ m → b < length counter.columns
     by zero none = absurd (omega (arith, some, count, none))

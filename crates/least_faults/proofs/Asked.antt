@@ -26,7 +26,7 @@ use Rattle.least_faults.specs.Evidence.{IsPosed, is_final}
 use Rattle.least_faults.specs.Growing.{KeepsQuestion}
 use Rattle.least_faults.specs.Parts.{AreParts, AreReady}
 use Rattle.question_clauses.proofs.Lists.{all_at}
-use Rattle.log_encode.specs.CodedLog.{CodedLog, without_names}
+use Rattle.log_encode.specs.CodedLog.{CodedLog}
 use Rattle.log_order.specs.Log.{Log, IsValidLog}
 use Rattle.proof_ledger.specs.Book.{BookEntry, axiomatic, learnt, final, mark, axioms_of, clauses_of, IsValidBook}
 use Rattle.proof_ledger.specs.Fresh.{is_learnt}
@@ -106,7 +106,7 @@ true_run steps code counter vars axioms bound assumed value parts assumptions al
 -- ---- what is answered
 
 module _ (steps : CodedSteps) (code : CodedLog) (counter : CounterState) (vars : ℕ) (net : Net) (log : Log) (mid : List BookEntry) (parts : AreParts steps code counter vars (axioms_of mid))
-    (of_net : steps.net ≡ net) (network : IsNetwork net) (valid : IsValidLog log) (same : code.log ≡ without_names log) (bound : Option ℕ) (assumed : List Lit) (assumptions : AreAssumptions code counter bound assumed)
+    (of_net : steps.net ≡ net) (network : IsNetwork net) (valid : IsValidLog log) (same : code.log ≡ log) (bound : Option ℕ) (assumed : List Lit) (assumptions : AreAssumptions code counter bound assumed)
     (old new : List BookEntry) (before after : ℕ) (adds : AddsAxioms old mid) (searched : IsSearched mid new before after) (known : HasAxiomVars mid) (begun : BuiltQuestion) (at_first : begun.axioms ≡ axioms_of old)
     (wide : length counter.columns ≡ max (length begun.counter.columns) (columns_for bound)) (listed : axioms_of mid ≡ (built_within begun bound).axioms)
     (counted : vars ≡ (built_within begun bound).vars) where

@@ -1,5 +1,5 @@
 -- Parts of a question take no more variables and axioms than the question does at most: as they begin, with a column, and with an addition.
-use Rattle.std.proofs.Common.{◌≡◌, ◌∙◌, ℕ, suc, ◌+◌, ◌-◌, ◌*◌, ◌<◌, ◌≤◌, Bool, true, false, cond, List, [], ◌++◌, length, refl, sym, ap, arith, sum_by, length-append}
+use Rattle.std.proofs.Common.{◌≡◌, ◌∙◌, ℕ, suc, ◌+◌, ◌-◌, ◌*◌, ◌<◌, ◌≤◌, Bool, true, false, cond, List, [], ◌++◌, length, refl, ap, arith, sum_by, length-append}
 use Rattle.std.proofs.Math.Nat.{mul-le-mul_right, suc-mul}
 use Rattle.card_counter.specs.CounterState.{CounterState}
 use Rattle.des_base.specs.Lists.{numbers_below}
@@ -17,11 +17,10 @@ use Rattle.question_clauses.specs.Additions.{Addition, alarm_added, pair_added, 
 use Rattle.question_clauses.specs.Drafts.{added_clauses}
 use Rattle.question_clauses.specs.LogNames.{added_meanings}
 use Rattle.log_encode.specs.AlarmVariables.{false_width}
-use Rattle.log_encode.specs.CodedLog.{CodedLog, addition_width, without_names}
+use Rattle.log_encode.specs.CodedLog.{CodedLog, addition_width}
 use Rattle.log_order.specs.Log.{Log, is_doubtful, no_log}
 use Rattle.prop_core.specs.Clauses.{Clause}
 use Rattle.replay.specs.QuestionSize.{alarm_variables, doubtful_count, matching_count}
-use Rattle.run_decode.proofs.Nameless.{nameless_bound, nameless_doubtful}
 use Rattle.step_encode.specs.Coded.{CodedSteps, variable_count}
 
 -- ---- the variables of a question
@@ -38,10 +37,6 @@ log_variables_are net log n =
     let each : (λ (i : ℕ). false_width (is_doubtful log i)) ≡ (λ (i : ℕ). cond (is_doubtful log i) 1 0) = λ j. λ i. false_is (is_doubtful log i) j in
     let falses = ap (λ (f : ℕ → ℕ). sum_by f (numbers_below (length log.alarms))) each in
     omega (arith, split, falses)
-
--- the names of alarms don't matter
-pub nameless_variables : (net : Net) (log : Log) (n : ℕ) → question_variables net log n ≡ question_variables net (without_names log) n
-nameless_variables net log n = omega (arith, log_variables_are net log n, log_variables_are net (without_names log) n, nameless_bound net log n, nameless_doubtful log)
 
 -- An addition, and what the counter may get with it, take no more than the question gets.
 pub addition_fits : (net : Net) (log : Log) (n : ℕ) (addition : Addition) →
@@ -65,11 +60,9 @@ one_less columns inputs few = let rest : 256 - columns ≡ suc (256 - (columns +
 
 -- with no column and no clause but those of the steps and of the log
 module _ (net : Net) (log : Log) (n : ℕ) (steps : CodedSteps) (code : CodedLog) (counter : CounterState) (vars : ℕ) (stepped written : List Clause) (network : IsNetwork net)
-    (is : steps ≡ record { net = net; steps = n; first = 0 }) (nameless : code.log ≡ without_names log) where
+    (is : steps ≡ record { net = net; steps = n; first = 0 }) (same : code.log ≡ log) where
   variables_are : question_variables steps.net code.log steps.steps ≡ question_variables net log n
-  variables_are =
-      ap (λ (s : CodedSteps). question_variables s.net code.log s.steps) is ∙ ap (λ (l : Log). question_variables net l n) nameless
-      ∙ sym (nameless_variables net log n)
+  variables_are = ap (λ (s : CodedSteps). question_variables s.net code.log s.steps) is ∙ ap (λ (l : Log). question_variables net l n) same
 
   clauses_are : coded_clauses steps.net code.log steps.steps ≡ coded_clauses net code.log n
   clauses_are = ap (λ (s : CodedSteps). coded_clauses s.net code.log s.steps) is

@@ -24,7 +24,7 @@ use Rattle.least_faults.specs.Columns.{built_within}
 use Rattle.least_faults.specs.Evidence.{is_final, IsEvidence, IsPosed, IsRefutation, NegatesAssumed}
 use Rattle.least_faults.specs.Growing.{KeepsColumns}
 use Rattle.least_faults.specs.Parts.{AreParts}
-use Rattle.log_encode.specs.CodedLog.{CodedLog, without_names}
+use Rattle.log_encode.specs.CodedLog.{CodedLog}
 use Rattle.log_order.specs.Log.{Log, IsValidLog}
 use Rattle.proof_ledger.specs.Book.{BookEntry, final, axiom_of, axioms_of, clauses_of, IsValidBook}
 use Rattle.proof_ledger.specs.Fresh.{is_learnt}
@@ -137,7 +137,7 @@ come_on code old new begun now net log n k first mid last budget before after wh
 -- ---- what is found
 
 module _ (steps : CodedSteps) (code : CodedLog) (counter : CounterState) (vars : ℕ) (log : Log) (first book since : List BookEntry) (is : book ≡ first ++ since) (parts : AreParts steps code counter vars (axioms_of book))
-    (network : IsNetwork steps.net) (valid : IsValidLog log) (same : code.log ≡ without_names log) (begun : BuiltQuestion) (at_first : begun.axioms ≡ axioms_of first) where
+    (network : IsNetwork steps.net) (valid : IsValidLog log) (same : code.log ≡ log) (begun : BuiltQuestion) (at_first : begun.axioms ≡ axioms_of first) where
   -- the axioms before an entry are the first ones of all
   axioms_before : (earlier later : List BookEntry) → since ≡ earlier ++ later → axioms_of book ≡ (begun.axioms ++ axioms_of earlier) ++ axioms_of later
   axioms_before earlier later whole =
@@ -226,7 +226,7 @@ module _ (steps : CodedSteps) (code : CodedLog) (counter : CounterState) (vars :
 -- ---- what the search answers
 
 module _ (steps : CodedSteps) (code : CodedLog) (counter : CounterState) (vars : ℕ) (net : Net) (log : Log) (first book : List BookEntry) (parts : AreParts steps code counter vars (axioms_of book))
-    (of_net : steps.net ≡ net) (network : IsNetwork net) (valid : IsValidLog log) (same : code.log ≡ without_names log) (budget : ℕ) (begun : BuiltQuestion) (at_first : begun.axioms ≡ axioms_of first) where
+    (of_net : steps.net ≡ net) (network : IsNetwork net) (valid : IsValidLog log) (same : code.log ≡ log) (budget : ℕ) (begun : BuiltQuestion) (at_first : begun.axioms ≡ axioms_of first) where
   own : IsNetwork steps.net
   own = subst IsNetwork (sym of_net) network
 

@@ -1,16 +1,15 @@
 -- Network, log, n and the number of columns determine what is built.
-use Rattle.std.proofs.Common.{◌≡◌, ◌∙◌, ℕ, suc, ◌+◌, ◌≤◌, List, [], ◌∷◌, ◌++◌, fold, length, map, take, sym, ap, subst, arith, Bool, Some, option_map, slice_get}
+use Rattle.std.proofs.Common.{◌≡◌, ◌∙◌, ℕ, suc, ◌+◌, ◌≤◌, List, [], ◌∷◌, ◌++◌, fold, length, map, take, sym, ap, subst, arith, Some, slice_get}
 use Rattle.std.proofs.lemmas.Grind.{fold-append}
 use Rattle.std.proofs.lemmas.List.{map-append}
 use Rattle.card_counter.specs.CounterState.{CounterState, with_column, without_columns, next_clauses}
 use Rattle.des_base.specs.declared.TheConstants.{VAR_LIMIT}
 use Rattle.des_net.specs.Network.{Net}
-use Rattle.least_faults.proofs.CodedAlarms.{nameless_at}
 use Rattle.least_faults.specs.LogCoding.{AreBuiltBy, alarms_added, pairs_added, written_of}
 use Rattle.question_clauses.specs.Additions.{Addition, alarm_added, pair_added}
 use Rattle.log_encode.proofs.WrittenLemmas.{draft_is_built, first_is_built}
 use Rattle.log_encode.specs.BuiltLog.{added_written, built_empty, built_log, built_with, first_written}
-use Rattle.log_encode.specs.CodedLog.{CodedLog, IsCodedLog, code_after, empty_code, nameless, read_meanings, without_names}
+use Rattle.log_encode.specs.CodedLog.{CodedLog, IsCodedLog, code_after, empty_code, read_meanings}
 use Rattle.log_encode.specs.Drafted.{DraftState, IsDraftOf}
 use Rattle.log_encode.specs.WrittenLog.{AppendsFirst}
 use Rattle.log_order.specs.Log.{Log, Alarm}
@@ -43,16 +42,16 @@ built_further first second old mid new old_clauses mid_clauses new_clauses one t
     two ∙ ap (λ built. fold built_with built second) one ∙ sym (fold-append built_with (written_of old old_clauses) first second)
 
 -- the next alarm of a log
-pub alarm_built : (log : Log) (i first : ℕ) (labels : List (List ℕ)) (maybe : Bool) (draft : DraftState) (old mid new : CodedLog) (old_clauses mid_clauses new_clauses : List Clause) →
-    option_map (λ (a : Alarm). a.labels) (slice_get log.alarms i) ≡ Some labels → option_map (λ (a : Alarm). a.doubtful) (slice_get log.alarms i) ≡ Some maybe → IsDraftOf mid (alarm_added (nameless labels maybe)) first draft →
-    AreBuiltBy (alarms_added (take i (without_names log).alarms)) old old_clauses mid mid_clauses → AreBuiltBy (draft.addition ∷ []) mid mid_clauses new new_clauses →
-    AreBuiltBy (alarms_added (take (i + 1) (without_names log).alarms)) old old_clauses new new_clauses
-alarm_built log i first labels maybe draft old mid new old_clauses mid_clauses new_clauses there mark is so_far one =
+pub alarm_built : (log : Log) (i first : ℕ) (alarm : Alarm) (draft : DraftState) (old mid new : CodedLog) (old_clauses mid_clauses new_clauses : List Clause) →
+    slice_get log.alarms i ≡ Some alarm → IsDraftOf mid (alarm_added alarm) first draft →
+    AreBuiltBy (alarms_added (take i log.alarms)) old old_clauses mid mid_clauses → AreBuiltBy (draft.addition ∷ []) mid mid_clauses new new_clauses →
+    AreBuiltBy (alarms_added (take (i + 1) log.alarms)) old old_clauses new new_clauses
+alarm_built log i first alarm draft old mid new old_clauses mid_clauses new_clauses there is so_far one =
     subst (λ additions. AreBuiltBy additions old old_clauses new new_clauses) longer
     (built_further (alarms_added (take i alarms)) (draft.addition ∷ []) old mid new old_clauses mid_clauses new_clauses so_far one)
   where
     alarms : List Alarm
-    alarms = (without_names log).alarms
+    alarms = log.alarms
 
     next : suc i ≡ i + 1
     next = omega arith
@@ -60,8 +59,8 @@ alarm_built log i first labels maybe draft old mid new old_clauses mid_clauses n
     longer : alarms_added (take i alarms) ++ draft.addition ∷ [] ≡ alarms_added (take (i + 1) alarms)
     longer =
         ap (λ (a : Addition). alarms_added (take i alarms) ++ a ∷ []) is.adds
-        ∙ sym (map-append (λ (a : Alarm). alarm_added a) (take i alarms) (nameless labels maybe ∷ []))
-        ∙ ap alarms_added (sym (take_push alarms i (nameless labels maybe) (nameless_at log.alarms i labels maybe there mark)))
+        ∙ sym (map-append (λ (a : Alarm). alarm_added a) (take i alarms) (alarm ∷ []))
+        ∙ ap alarms_added (sym (take_push alarms i alarm there))
         ∙ ap (λ k. alarms_added (take k alarms)) next
 
 -- the next pair
@@ -84,11 +83,11 @@ pair_built pairs i first one second draft old mid new old_clauses mid_clauses ne
 
 -- the whole log
 pub log_is_built : (net : Net) (grid : Grid) (vars : ℕ) (log : Log) (code with_alarms with_pairs : CodedLog) (none first alarms_clauses clauses : List Clause) → code ≡ empty_code net grid vars → IsCodedLog code → none ≡ [] →
-    AppendsFirst net grid.steps (read_meanings (empty_code net grid vars)) none first → AreBuiltBy (alarms_added (without_names log).alarms) code first with_alarms alarms_clauses → AreBuiltBy (pairs_added log.pairs) with_alarms alarms_clauses with_pairs clauses →
-    written_of with_pairs clauses ≡ built_log net grid vars (without_names log)
+    AppendsFirst net grid.steps (read_meanings (empty_code net grid vars)) none first → AreBuiltBy (alarms_added log.alarms) code first with_alarms alarms_clauses → AreBuiltBy (pairs_added log.pairs) with_alarms alarms_clauses with_pairs clauses →
+    written_of with_pairs clauses ≡ built_log net grid vars log
 log_is_built net grid vars log code with_alarms with_pairs none first alarms_clauses clauses is coded empty appended alarms pairs =
-    built_further (alarms_added (without_names log).alarms) (pairs_added log.pairs) code with_alarms with_pairs first alarms_clauses clauses alarms pairs
-    ∙ ap (λ built. fold built_with built (alarms_added (without_names log).alarms ++ pairs_added log.pairs)) begun
+    built_further (alarms_added log.alarms) (pairs_added log.pairs) code with_alarms with_pairs first alarms_clauses clauses alarms pairs
+    ∙ ap (λ built. fold built_with built (alarms_added log.alarms ++ pairs_added log.pairs)) begun
   where
     written : first ≡ first_written (empty_code net grid vars)
     written = first_is_built (empty_code net grid vars) none first (subst IsCodedLog is coded) appended ∙ ap (λ cs. cs ++ first_written (empty_code net grid vars)) empty
@@ -100,14 +99,14 @@ log_is_built net grid vars log code with_alarms with_pairs none first alarms_cla
 
 -- steps and log, and a counter without columns
 pub question_begun : (net : Net) (log : Log) (n : ℕ) (steps : CodedSteps) (code : CodedLog) (grid : Grid) (made vars : ℕ) (none stepped written : List Clause) (inputs : List Lit) (counter : CounterState) →
-    steps ≡ steps_built net n → grid ≡ code_grid steps → made ≡ variable_count net n → none ≡ [] → AppendsSteps net n (code_meanings steps) none stepped → IsCodedLog code → written_of code written ≡ built_log net grid made (without_names log) →
+    steps ≡ steps_built net n → grid ≡ code_grid steps → made ≡ variable_count net n → none ≡ [] → AppendsSteps net n (code_meanings steps) none stepped → IsCodedLog code → written_of code written ≡ built_log net grid made log →
     AreInputs steps code inputs → counter ≡ without_columns inputs → code.vars ≡ vars →
     record { steps = steps; code = code; counter = counter; vars = vars; axioms = stepped ++ written } ≡ question_built net log n 0
 question_begun net log n steps code grid made vars none stepped written inputs counter is beside count empty appended coded built are counts same =
     (λ i. record { steps = is i; code = code; counter = counts i; vars = sym same i; axioms = stepped ++ written })
     ∙ question_begins net log n code stepped written inputs
     (subst (λ (s : CodedSteps). AppendsSteps net n (code_meanings s) [] stepped) is (subst (λ cs. AppendsSteps net n (code_meanings steps) cs stepped) empty appended)) coded
-    (built ∙ ap (λ (g : Grid). built_log net g made (without_names log)) (beside ∙ ap code_grid is) ∙ ap (λ first. built_log net (code_grid (steps_built net n)) first (without_names log)) count)
+    (built ∙ ap (λ (g : Grid). built_log net g made log) (beside ∙ ap code_grid is) ∙ ap (λ first. built_log net (code_grid (steps_built net n)) first log) count)
     (subst (λ (s : CodedSteps). AreInputs s code inputs) is are)
 
 -- a further column

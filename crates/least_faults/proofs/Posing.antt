@@ -7,14 +7,13 @@ use Rattle.least_faults.specs.Evidence.{IsPosed}
 use Rattle.least_faults.specs.Parts.{AreParts, AreReady, BelongTo, meanings_of_parts}
 use Rattle.des_net.specs.Network.{Net, IsNetwork}
 use Rattle.question_clauses.proofs.Lists.{all_at}
-use Rattle.log_encode.specs.CodedLog.{CodedLog, read_meanings, without_names}
+use Rattle.log_encode.specs.CodedLog.{CodedLog, read_meanings}
 use Rattle.log_order.specs.Log.{Log, IsValidLog}
 use Rattle.prop_core.specs.Clauses.{Clause}
 use Rattle.prop_core.specs.VariableNames.{Meaning, NamedLiteral, ReadsAs}
 use Rattle.prop_core.specs.declared.lit.Lit.{Lit}
 use Rattle.replay.specs.QuestionSize.{variable_bound}
 use Rattle.run_decode.proofs.FewNames.{together_are_few}
-use Rattle.run_decode.proofs.Nameless.{alarm_names_dont_matter}
 use Rattle.run_decode.proofs.Questions.{instances_of, question_is_faithful}
 use Rattle.run_decode.proofs.WholeNames.{together_ask}
 use Rattle.run_decode.specs.Drawn.{IsInstance}
@@ -49,12 +48,11 @@ clauses_ask steps code counter axioms bound assumed together clauses assumptions
     by None there = subst (Asks steps.net code.log steps.steps None (whole_meanings steps code counter) axioms) (sym (append-nil assumptions.guards)) ask.unbounded
     by (Some k) there = ask.bounded k there
 
--- whatever the names of the log's alarms
+-- and so they do of a log that is the coded one
 pub clauses_ask_of : (steps : CodedSteps) (code : CodedLog) (counter : CounterState) (axioms : List Clause) (bound : Option ℕ) (assumed : List Lit) (log : Log) → AreCodedTogether steps code counter → AreClausesOf steps code counter axioms →
-    AreAssumptions code counter bound assumed → code.log ≡ without_names log → Asks steps.net log steps.steps bound (whole_meanings steps code counter) axioms assumed
+    AreAssumptions code counter bound assumed → code.log ≡ log → Asks steps.net log steps.steps bound (whole_meanings steps code counter) axioms assumed
 clauses_ask_of steps code counter axioms bound assumed log together clauses assumptions same =
-    ((alarm_names_dont_matter steps.net log steps.steps).asks bound (whole_meanings steps code counter) axioms assumed).1
-    (subst (λ l. Asks steps.net l steps.steps bound (whole_meanings steps code counter) axioms assumed) same (clauses_ask steps code counter axioms bound assumed together clauses assumptions))
+    subst (λ l. Asks steps.net l steps.steps bound (whole_meanings steps code counter) axioms assumed) same (clauses_ask steps code counter axioms bound assumed together clauses assumptions)
 
 pub clauses_pose : (steps : CodedSteps) (code : CodedLog) (counter : CounterState) (axioms : List Clause) (bound : Option ℕ) (assumed : List Lit) → AreCodedTogether steps code counter → AreClausesOf steps code counter axioms →
     AreAssumptions code counter bound assumed → Pose steps code counter axioms bound assumed

@@ -10,7 +10,7 @@ use Rattle.least_faults.specs.Parts.{AreParts}
 use Rattle.question_clauses.proofs.LogCodes.{IsReadOf, read_of}
 use Rattle.question_clauses.proofs.Lists.{all_at}
 use Rattle.question_clauses.specs.LogClauses.{guard_literals, chain}
-use Rattle.log_encode.specs.CodedLog.{CodedLog, without_names}
+use Rattle.log_encode.specs.CodedLog.{CodedLog}
 use Rattle.log_order.specs.Log.{Log, IsValidLog}
 use Rattle.prop_core.specs.Clauses.{Clause, negation, NegatesOnly}
 use Rattle.prop_core.specs.VariableNames.{Meaning, reaches, closed, NamedLiteral, yes, no, named_literal, named_clause, ReadsAs}
@@ -83,7 +83,7 @@ module _ (steps : CodedSteps) (code : CodedLog) (counter : CounterState) (vars :
       let meaning = (together_one_naming steps code counter parts.together).of_counter.called (length counter.inputs - 1) j (record { input = omega (arith, some); column = less }) in
       ap (λ o. option_map (λ (meaning' : Meaning). let m : NamedLiteral = record { meaning = meaning'; positive = false } in m) o) meaning
 
-  pub tells_bound : (log : Log) (j b faults : ℕ) (first second : List Lit) (clause : Clause) → IsNetwork steps.net → IsValidLog log → code.log ≡ without_names log →
+  pub tells_bound : (log : Log) (j b faults : ℕ) (first second : List Lit) (clause : Clause) → IsNetwork steps.net → IsValidLog log → code.log ≡ log →
       AreAssumptions code counter (Some j) first → NegatesOnly first clause → ReadsAs (whole_meanings steps code counter) second (assumption_literals steps.net log steps.steps (Some b)) → NegatesOnly second clause →
       Entails axioms clause → IsExplained steps.net log steps.steps faults → j ≡ b
   tells_bound log j b faults first second clause network valid same assumptions negates reads others entails explained =

@@ -14,7 +14,7 @@ use Rattle.least_faults.specs.Evidence.{IsPosed, is_final, IsRefutation}
 use Rattle.least_faults.specs.Growing.{KeepsQuestion}
 use Rattle.least_faults.specs.Parts.{AreReady}
 use Rattle.question_clauses.specs.LogClauses.{guard_literals}
-use Rattle.log_encode.specs.CodedLog.{CodedLog, read_meanings, without_names, log_guards}
+use Rattle.log_encode.specs.CodedLog.{CodedLog, read_meanings, log_guards}
 use Rattle.log_order.specs.Log.{Log, IsValidLog}
 use Rattle.proof_ledger.specs.Book.{BookEntry, clauses_of}
 use Rattle.proof_ledger.specs.Fresh.{is_learnt}
@@ -60,9 +60,9 @@ pub record IsBoundable (counter : CounterState) (k : ℕ) : Type 0 where
   pub some : 0 < length counter.inputs
   pub few : k ≤ MOST_FAULTS
 
--- Together with the axioms they ask which explanations there are within the bound, whatever the names of the log's alarms.
+-- Together with the axioms they ask which explanations of the log there are within the bound.
 abbrev pub Pose : CodedSteps → CodedLog → CounterState → List Clause → Option ℕ → List Lit → Type 0
-Pose steps code counter axioms bound assumed = (log : Log) → IsNetwork steps.net → IsValidLog log → code.log ≡ without_names log →
+Pose steps code counter axioms bound assumed = (log : Log) → IsNetwork steps.net → IsValidLog log → code.log ≡ log →
     IsPosed (whole_meanings steps code counter) axioms assumed steps.net log steps.steps bound
 
 -- The counter has a column for the bound, and keeps those that it had. The literal is the counter's for it, and together with the guards it poses the question within the bound, with whatever list has the clauses of the parts.

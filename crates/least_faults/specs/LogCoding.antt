@@ -3,15 +3,15 @@ use Rattle.std.specs.Prelude.{◌≡◌, ℕ, List, [], fold, map}
 use Rattle.des_net.specs.Network.{Net}
 use Rattle.question_clauses.specs.Additions.{Addition, alarm_added, pair_added}
 use Rattle.log_encode.specs.BuiltLog.{BuiltLog, built_with}
-use Rattle.log_encode.specs.CodedLog.{CodedLog, without_names}
+use Rattle.log_encode.specs.CodedLog.{CodedLog}
 use Rattle.log_encode.specs.WrittenLog.{IsWritten}
 use Rattle.log_order.specs.Log.{Log, Alarm}
 use Rattle.prop_core.specs.Clauses.{Clause}
 use Rattle.prop_core.specs.declared.grid.Grid.{Grid}
 
--- the alarms of the log without their names, and no pairs
+-- the alarms of the log, and no pairs
 abbrev pub alarms_alone : Log → Log
-alarms_alone log = record { alarms = (without_names log).alarms; pairs = [] }
+alarms_alone log = record log { pairs = [] }
 
 -- the code is that of the log in the network, beside the events of the grid
 pub record IsCodeOf (net : Net) (log : Log) (grid : Grid) (code : CodedLog) : Type 0 where

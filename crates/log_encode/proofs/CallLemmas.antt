@@ -7,7 +7,7 @@ use Rattle.des_base.proofs.Elements.{cons_cases, none_in_nil, contains_at, at_pl
 use Rattle.des_base.specs.Lists.{numbers_below}
 use Rattle.des_base.specs.declared.TheConstants.{VAR_LIMIT}
 use Rattle.des_net.specs.Network.{Net, observable_events}
-use Rattle.log_order.specs.Log.{Log, is_doubtful}
+use Rattle.log_order.specs.Log.{Log, Alarm, is_doubtful}
 use Rattle.question_clauses.specs.Additions.{alarm_added, with_addition}
 use Rattle.question_clauses.specs.LogClauses.{chain, guard_literals, matching_events}
 use Rattle.question_clauses.specs.Decoded.{alarm_at, is_false_alarm}
@@ -24,7 +24,7 @@ use Rattle.log_encode.proofs.TakenLemmas.{map_count}
 use Rattle.log_encode.proofs.VariableLemmas.{link_is_small}
 use Rattle.log_encode.specs.AlarmState.{AlarmState, variables_of, is_matched}
 use Rattle.log_encode.specs.AlarmVariables.{AreWithinLimit, alarm_variable_count, false_width, match_variable, passed_variable, done_variable, dropped_variable}
-use Rattle.log_encode.specs.CodedLog.{CodedLog, log_meanings, read_meanings, empty_code, code_after, addition_width, nameless, false_literals, IsCodedLog}
+use Rattle.log_encode.specs.CodedLog.{CodedLog, log_meanings, read_meanings, empty_code, code_after, addition_width, false_literals, IsCodedLog}
 use Rattle.log_encode.specs.declared.log_code.LogCode.TheInside.{Inside}
 use Rattle.log_encode.specs.Drafted.{LogCodeState, IsStepOfAlarm, IsUnpassed}
 use Rattle.log_encode.specs.declared.taken.ChainEnd.{ChainEnd}
@@ -180,19 +180,19 @@ unpassed_is code i alarm link step var is known time same =
 
 -- ---- a draft of an alarm
 
-pub record IsDrafting (code : CodedLog) (labels : List (List ℕ)) (maybe : Bool) (first : ℕ) (chain_ends : List ChainEnd) (guards : List Lit) : Type 0 where
+pub record IsDrafting (code : CodedLog) (new : Alarm) (first : ℕ) (chain_ends : List ChainEnd) (guards : List Lit) : Type 0 where
   pub coded : IsCodedLog code
   pub chains : AreEnds code chain_ends guards
   pub above : code.vars ≤ first
-  pub few : first + addition_width code (alarm_added (nameless labels maybe)) ≤ VAR_LIMIT
+  pub few : first + addition_width code (alarm_added new) ≤ VAR_LIMIT
 
-pub draft_known : (code : CodedLog) (labels : List (List ℕ)) (maybe : Bool) (first : ℕ) (chain_ends : List ChainEnd) (guards : List Lit) → IsDrafting code labels maybe first chain_ends guards → AllByRecursion (λ (end : ChainEnd). end.event < code.grid.events) chain_ends
-draft_known code labels maybe first chain_ends guards is = all_known code.net code.grid chain_ends is.coded.events is.chains.events
+pub draft_known : (code : CodedLog) (new : Alarm) (first : ℕ) (chain_ends : List ChainEnd) (guards : List Lit) → IsDrafting code new first chain_ends guards → AllByRecursion (λ (end : ChainEnd). end.event < code.grid.events) chain_ends
+draft_known code new first chain_ends guards is = all_known code.net code.grid chain_ends is.coded.events is.chains.events
 
-pub draft_known_events : (code : CodedLog) (labels : List (List ℕ)) (maybe : Bool) (first : ℕ) (chain_ends : List ChainEnd) (guards : List Lit) → IsDrafting code labels maybe first chain_ends guards → All (λ (end : ChainEnd). end.event < length code.net.events) chain_ends
-draft_known_events code labels maybe first chain_ends guards is =
+pub draft_known_events : (code : CodedLog) (new : Alarm) (first : ℕ) (chain_ends : List ChainEnd) (guards : List Lit) → IsDrafting code new first chain_ends guards → All (λ (end : ChainEnd). end.event < length code.net.events) chain_ends
+draft_known_events code new first chain_ends guards is =
     All-from_recursion (λ (end : ChainEnd). end.event < length code.net.events) chain_ends
-    (subst (λ k. AllByRecursion (λ (end : ChainEnd). end.event < k) chain_ends) is.coded.events (draft_known code labels maybe first chain_ends guards is))
+    (subst (λ k. AllByRecursion (λ (end : ChainEnd). end.event < k) chain_ends) is.coded.events (draft_known code new first chain_ends guards is))
 
 has_rest : (code : CodedLog) (end : ChainEnd) → IsCodedLog code → end.event < code.grid.events → IsChainEnd code end → HasRest code.grid (record { event = end.event; last = end.last })
 has_rest code end coded known is = record { event = known; last = by end.last is.rest }
@@ -224,8 +224,8 @@ small_ends code (end ∷ chain_ends) coded all =
     let below = named_below code.vars end.closed _ (log_meanings code) coded.meanings.below all.0.closing in
     (omega (arith, below, coded.few), small_ends code chain_ends coded all.1)
 
-pub draft_small : (code : CodedLog) (labels : List (List ℕ)) (maybe : Bool) (first : ℕ) (chain_ends : List ChainEnd) (guards : List Lit) → IsDrafting code labels maybe first chain_ends guards → All (λ (end : ChainEnd). end.closed < VAR_LIMIT) chain_ends
-draft_small code labels maybe first chain_ends guards is = All-from_recursion (λ (end : ChainEnd). end.closed < VAR_LIMIT) chain_ends (small_ends code chain_ends is.coded is.chains.each)
+pub draft_small : (code : CodedLog) (new : Alarm) (first : ℕ) (chain_ends : List ChainEnd) (guards : List Lit) → IsDrafting code new first chain_ends guards → All (λ (end : ChainEnd). end.closed < VAR_LIMIT) chain_ends
+draft_small code new first chain_ends guards is = All-from_recursion (λ (end : ChainEnd). end.closed < VAR_LIMIT) chain_ends (small_ends code chain_ends is.coded is.chains.each)
 
 pub draft_asked : (code : CodedLog) → IsCodedLog code → code.asked < VAR_LIMIT
 draft_asked code coded = let low = asked_below code coded in omega (arith, low, coded.few)
@@ -252,8 +252,8 @@ ends_after_small vars chain_ends after takes within links all is =
     All-from_recursion (λ (end : ChainEnd). end.closed < VAR_LIMIT) after
     (subst (AllByRecursion (λ (end : ChainEnd). end.closed < VAR_LIMIT)) (sym is) (after_small vars 0 chain_ends takes within (omega (arith, links)) (recursion_from_All (λ (end : ChainEnd). end.closed < VAR_LIMIT) chain_ends all)))
 
-pub draft_rests : (code : CodedLog) (labels : List (List ℕ)) (maybe : Bool) (first : ℕ) (chain_ends : List ChainEnd) (guards : List Lit) → IsDrafting code labels maybe first chain_ends guards → All (HasRest code.grid) (taken_from code.net labels chain_ends)
-draft_rests code labels maybe first chain_ends guards is = All-from_recursion (HasRest code.grid) (taken_from code.net labels chain_ends) (rests code labels chain_ends is.coded (draft_known code labels maybe first chain_ends guards is) is.chains.each)
+pub draft_rests : (code : CodedLog) (new : Alarm) (first : ℕ) (chain_ends : List ChainEnd) (guards : List Lit) → IsDrafting code new first chain_ends guards → All (HasRest code.grid) (taken_from code.net new.labels chain_ends)
+draft_rests code new first chain_ends guards is = All-from_recursion (HasRest code.grid) (taken_from code.net new.labels chain_ends) (rests code new.labels chain_ends is.coded (draft_known code new first chain_ends guards is) is.chains.each)
 
 pub begins : (net : Net) (grid : Grid) (vars asked : ℕ) (chain_ends : List ChainEnd) → asked ≡ vars → grid.events ≡ length net.events → grid.first + grid.events * grid.steps ≤ vars → vars + length (first_meanings net) ≤ VAR_LIMIT →
     chain_ends ≡ first_ends (suc asked) (observable_events net) → IsBeginning net grid asked chain_ends
@@ -266,7 +266,7 @@ guards_len net grid asked len chain_ends slice guards is same made count = sym c
 pub found_alarm : (a : Inside) (state : LogCodeState) (i : ℕ) (alarm : AlarmState) → code_view a ≡ state → KeepsLogCode a → i < length state.coded.log.alarms → alarm ≡ slice_index_or a.alarms.items i alarm → IsCodedAlarm state.coded i alarm × IsCodedLog state.coded
 found_alarm a state i alarm view inv known at =
     subst (λ (s : LogCodeState). i < length s.coded.log.alarms → IsCodedAlarm s.coded i alarm × IsCodedLog s.coded) view
-    (λ known. (inv.kept.alarms i alarm (alarm_at_place a.alarms.items i alarm (omega (arith, known, map_count (λ (x : AlarmState). nameless x.labels x.doubtful) a.alarms.items)) ∙ ap (λ x. Some x) (sym at)), inv.kept.log))
+    (λ known. (inv.kept.alarms i alarm (alarm_at_place a.alarms.items i alarm (omega (arith, known, map_count (λ (x : AlarmState). x.noted) a.alarms.items)) ∙ ap (λ x. Some x) (sym at)), inv.kept.log))
     known
 
 -- ---- which alarm is matched
@@ -374,26 +374,26 @@ find_miss p q m none = find_nothing p q 0 m (λ j high low. none j (omega (arith
 -- ---- the draft itself
 
 -- what the draft of an alarm keeps for its commit
-pub record IsReadyAlarm (code : CodedLog) (first : ℕ) (labels : List (List ℕ)) (maybe : Bool) (takes : List Taken) (after : List ChainEnd) (guards later : List Lit) : Type 0 where
-  pub alarm : IsCodedAlarm (code_after code (alarm_added (nameless labels maybe)) first) (length code.log.alarms) (record { labels = labels; doubtful = maybe; takes = takes; start = first })
-  pub chains : AreEnds (code_after code (alarm_added (nameless labels maybe)) first) after guards
-  pub false_ones : AreFalse (code_after code (alarm_added (nameless labels maybe)) first) later
+pub record IsReadyAlarm (code : CodedLog) (first : ℕ) (new : Alarm) (takes : List Taken) (after : List ChainEnd) (guards later : List Lit) : Type 0 where
+  pub alarm : IsCodedAlarm (code_after code (alarm_added new) first) (length code.log.alarms) (record { noted = new; takes = takes; start = first })
+  pub chains : AreEnds (code_after code (alarm_added new) first) after guards
+  pub false_ones : AreFalse (code_after code (alarm_added new) first) later
 
-pub ready_alarm : (code : CodedLog) (labels : List (List ℕ)) (maybe : Bool) (first links : ℕ) (chain_ends after : List ChainEnd) (guards then old later : List Lit) (takes : List Taken) → IsDrafting code labels maybe first chain_ends guards → takes ≡ taken_from code.net labels chain_ends → links ≡ length takes →
-    after ≡ ends_after (new_vars code first links maybe) 0 chain_ends takes → then ≡ guards_of code.asked after → AreFalse code old → later ≡ old ++ dropped_written (new_vars code first links maybe) → IsReadyAlarm code first labels maybe takes after then later
-ready_alarm code labels maybe first links chain_ends after guards then old later takes is t l e g f d =
-    rw (d, g, e, l, t) (record { false_ones = false_with_alarm code labels maybe first chain_ends old is.coded is.above is.chains.events f; alarm = new_alarm code labels maybe first chain_ends is.coded is.above is.chains.events; chains = ends_with_alarm code labels maybe first chain_ends guards is.coded is.above is.chains })
+pub ready_alarm : (code : CodedLog) (new : Alarm) (first links : ℕ) (chain_ends after : List ChainEnd) (guards then old later : List Lit) (takes : List Taken) → IsDrafting code new first chain_ends guards → takes ≡ taken_from code.net new.labels chain_ends → links ≡ length takes →
+    after ≡ ends_after (new_vars code first links new.doubtful) 0 chain_ends takes → then ≡ guards_of code.asked after → AreFalse code old → later ≡ old ++ dropped_written (new_vars code first links new.doubtful) → IsReadyAlarm code first new takes after then later
+ready_alarm code new first links chain_ends after guards then old later takes is t l e g f d =
+    rw (d, g, e, l, t) (record { false_ones = false_with_alarm code new first chain_ends old is.coded is.above is.chains.events f; alarm = new_alarm code new first chain_ends is.coded is.above is.chains.events; chains = ends_with_alarm code new first chain_ends guards is.coded is.above is.chains })
 
-pub draft_brings : (code : CodedLog) (labels : List (List ℕ)) (maybe : Bool) (first links : ℕ) (chain_ends : List ChainEnd) (guards : List Lit) (takes : List Taken) (clauses : List Clause) → IsDrafting code labels maybe first chain_ends guards → takes ≡ taken_from code.net labels chain_ends → links ≡ length takes →
-    clauses ≡ alarm_written code.grid code.asked (new_vars code first links maybe) takes →
-    IsListed (read_meanings (code_after code (alarm_added (nameless labels maybe)) first)) (added_list code.net code.log code.grid.steps (alarm_added (nameless labels maybe))) clauses
-    × (length clauses + 12 * question_size code.net code.log code.grid.steps ≤ 12 * question_size code.net (with_addition code.log (alarm_added (nameless labels maybe))) code.grid.steps + 12)
-draft_brings code labels maybe first links chain_ends guards takes clauses is t l w =
-    rw (w, l, t) (alarm_brings code labels maybe first chain_ends is.coded (grown_is_coded code (alarm_added (nameless labels maybe)) first is.coded is.above is.few) is.above is.chains.events (draft_known code labels maybe first chain_ends guards is) is.chains.each)
+pub draft_brings : (code : CodedLog) (new : Alarm) (first links : ℕ) (chain_ends : List ChainEnd) (guards : List Lit) (takes : List Taken) (clauses : List Clause) → IsDrafting code new first chain_ends guards → takes ≡ taken_from code.net new.labels chain_ends → links ≡ length takes →
+    clauses ≡ alarm_written code.grid code.asked (new_vars code first links new.doubtful) takes →
+    IsListed (read_meanings (code_after code (alarm_added new) first)) (added_list code.net code.log code.grid.steps (alarm_added new)) clauses
+    × (length clauses + 12 * question_size code.net code.log code.grid.steps ≤ 12 * question_size code.net (with_addition code.log (alarm_added new)) code.grid.steps + 12)
+draft_brings code new first links chain_ends guards takes clauses is t l w =
+    rw (w, l, t) (alarm_brings code new first chain_ends is.coded (grown_is_coded code (alarm_added new) first is.coded is.above is.few) is.above is.chains.events (draft_known code new first chain_ends guards is) is.chains.each)
 
-pub draft_width : (code : CodedLog) (labels : List (List ℕ)) (maybe : Bool) (first links : ℕ) (chain_ends : List ChainEnd) (guards : List Lit) (takes : List Taken) → IsDrafting code labels maybe first chain_ends guards → takes ≡ taken_from code.net labels chain_ends → links ≡ length takes →
-    addition_width code (alarm_added (nameless labels maybe)) ≡ alarm_variable_count links code.grid.steps + false_width maybe
-draft_width code labels maybe first links chain_ends guards takes is t l = rw (l, t) (taken_width code labels maybe chain_ends is.chains.events)
+pub draft_width : (code : CodedLog) (new : Alarm) (first links : ℕ) (chain_ends : List ChainEnd) (guards : List Lit) (takes : List Taken) → IsDrafting code new first chain_ends guards → takes ≡ taken_from code.net new.labels chain_ends → links ≡ length takes →
+    addition_width code (alarm_added new) ≡ alarm_variable_count links code.grid.steps + false_width new.doubtful
+draft_width code new first links chain_ends guards takes is t l = rw (l, t) (taken_width code new chain_ends is.chains.events)
 
 -- no alarm so far stands for the event
 pub record NoneSoFar (state : LogCodeState) (value : ℕ → Bool) (e step number : ℕ) : Type 0 where
@@ -414,7 +414,7 @@ pub kept_alarm : (a : Inside) (state : LogCodeState) (i : ℕ) (alarm : AlarmSta
 kept_alarm a state i alarm view inv known at = subst (λ (s : LogCodeState). IsCodedAlarm s.coded i alarm × IsCodedLog s.coded) view (inv.kept.alarms i alarm at, inv.kept.log)
 
 pub kept_count : (a : Inside) (state : LogCodeState) → code_view a ≡ state → KeepsLogCode a → (length state.coded.log.alarms ≡ length a.alarms.items) × IsCodedLog state.coded
-kept_count a state view inv = subst (λ (s : LogCodeState). (length s.coded.log.alarms ≡ length a.alarms.items) × IsCodedLog s.coded) view (map_count (λ (x : AlarmState). nameless x.labels x.doubtful) a.alarms.items, inv.kept.log)
+kept_count a state view inv = subst (λ (s : LogCodeState). (length s.coded.log.alarms ≡ length a.alarms.items) × IsCodedLog s.coded) view (map_count (λ (x : AlarmState). x.noted) a.alarms.items, inv.kept.log)
 
 pub found_first : (state : LogCodeState) (value : ℕ → Bool) (e step number : ℕ) → NoneSoFar state value e step number → number < length state.coded.log.alarms → stands_for state.coded value e step number ≡ true →
     Some number ≡ alarm_at state.coded.net state.coded.log (value_by (log_meanings state.coded) value) e step
@@ -448,10 +448,10 @@ pub false_read : (code : CodedLog) (lits : List Lit) → AreFalse code lits → 
 false_read code lits are = clause_named (log_meanings code) lits (false_literals code.log) are
 
 pub false_is : (code : CodedLog) (i : ℕ) (alarm : AlarmState) (value : ℕ → Bool) → IsCodedLog code → IsCodedAlarm code i alarm →
-    (alarm.doubtful && value (dropped_variable (variables_of code.grid.steps alarm))) ≡ is_false_alarm code.log (value_by (log_meanings code) value) i
-false_is code i alarm value coded is = by alarm.doubtful refl
+    (alarm.noted.doubtful && value (dropped_variable (variables_of code.grid.steps alarm))) ≡ is_false_alarm code.log (value_by (log_meanings code) value) i
+false_is code i alarm value coded is = by alarm.noted.doubtful refl
   where
-    by : (b : Bool) → alarm.doubtful ≡ b → (alarm.doubtful && value (dropped_variable (variables_of code.grid.steps alarm))) ≡ is_false_alarm code.log (value_by (log_meanings code) value) i
+    by : (b : Bool) → alarm.noted.doubtful ≡ b → (alarm.noted.doubtful && value (dropped_variable (variables_of code.grid.steps alarm))) ≡ is_false_alarm code.log (value_by (log_meanings code) value) i
     by true e =
         let mark : is_doubtful code.log i ≡ true = is.mark ∙ e in
         let valued = values_match (log_meanings code) coded.meanings.once value (dropped_variable (variables_of code.grid.steps alarm)) (dropped i) (is.being_false e) in

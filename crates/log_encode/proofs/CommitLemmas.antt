@@ -7,7 +7,7 @@ use Rattle.log_encode.proofs.CodeLemmas.{grown_is_coded}
 use Rattle.log_encode.proofs.StayLemmas.{kept_by_pair, kept_with_alarm, coded_with_alarm}
 use Rattle.log_encode.proofs.TakenLemmas.{map_count}
 use Rattle.log_encode.specs.AlarmState.{AlarmState}
-use Rattle.log_encode.specs.CodedLog.{CodedLog, code_after, addition_width, nameless}
+use Rattle.log_encode.specs.CodedLog.{CodedLog, code_after, addition_width}
 use Rattle.log_encode.specs.declared.taken.ChainEnd.{ChainEnd}
 use Rattle.log_encode.specs.View.{AreEnds, AreFalse, IsCodedAlarm, AreKept, IsReadyDraft, IsReadyChange, addition_of, coded_of}
 use Rattle.log_encode.specs.declared.draft.Change.{Change}
@@ -34,26 +34,26 @@ pair_committed net grid asked old first width vars i j chain_ends guards dropped
     rw (l, total) (kept_by_pair code i j first chain_ends guards dropped alarms grown is.above kept, refl)
 
 pub alarm_committed : (net : Net) (grid : Grid) (asked old first width vars : ℕ) (chain_ends after : List ChainEnd) (guards then dropped later : List Lit) (alarms longer : List AlarmState) (pairs : List (ℕ × ℕ)) (alarm : AlarmState) →
-    AreKept (coded_of net grid asked old alarms pairs) chain_ends guards dropped alarms → IsAfter (coded_of net grid asked old alarms pairs) (alarm_added (nameless alarm.labels alarm.doubtful)) first width vars → alarm.start ≡ first →
-    IsCodedAlarm (code_after (coded_of net grid asked old alarms pairs) (alarm_added (nameless alarm.labels alarm.doubtful)) first) (length (coded_of net grid asked old alarms pairs).log.alarms) alarm →
-    AreEnds (code_after (coded_of net grid asked old alarms pairs) (alarm_added (nameless alarm.labels alarm.doubtful)) first) after then → AreFalse (code_after (coded_of net grid asked old alarms pairs) (alarm_added (nameless alarm.labels alarm.doubtful)) first) later → longer ≡ alarms ++ alarm ∷ [] →
-    AreKept (coded_of net grid asked vars longer pairs) after then later longer × (coded_of net grid asked vars longer pairs ≡ code_after (coded_of net grid asked old alarms pairs) (alarm_added (nameless alarm.labels alarm.doubtful)) first)
+    AreKept (coded_of net grid asked old alarms pairs) chain_ends guards dropped alarms → IsAfter (coded_of net grid asked old alarms pairs) (alarm_added alarm.noted) first width vars → alarm.start ≡ first →
+    IsCodedAlarm (code_after (coded_of net grid asked old alarms pairs) (alarm_added alarm.noted) first) (length (coded_of net grid asked old alarms pairs).log.alarms) alarm →
+    AreEnds (code_after (coded_of net grid asked old alarms pairs) (alarm_added alarm.noted) first) after then → AreFalse (code_after (coded_of net grid asked old alarms pairs) (alarm_added alarm.noted) first) later → longer ≡ alarms ++ alarm ∷ [] →
+    AreKept (coded_of net grid asked vars longer pairs) after then later longer × (coded_of net grid asked vars longer pairs ≡ code_after (coded_of net grid asked old alarms pairs) (alarm_added alarm.noted) first)
 alarm_committed net grid asked old first width vars chain_ends after guards then dropped later alarms longer pairs alarm kept is begins last chains false_ones l =
     let code = coded_of net grid asked old alarms pairs in
-    let addition = alarm_added (nameless alarm.labels alarm.doubtful) in
+    let addition = alarm_added alarm.noted in
     let total : vars ≡ first + addition_width code addition = omega (arith, is.last, is.wide) in
     let grown = grown_is_coded code addition first kept.log is.above (omega (arith, is.few, is.wide)) in
     let same = coded_with_alarm net grid asked old first alarms pairs alarm begins in
-    let count : length code.log.alarms ≡ length alarms = map_count (λ (x : AlarmState). nameless x.labels x.doubtful) alarms in
+    let count : length code.log.alarms ≡ length alarms = map_count (λ (x : AlarmState). x.noted) alarms in
     rw (l, total) (subst (λ (k : CodedLog). AreKept k after then later (alarms ++ alarm ∷ [])) (sym same) (kept_with_alarm code first chain_ends after guards then dropped later alarms alarm count grown is.above kept chains false_ones last), same)
 
 -- what a draft that is committed says of the code, if it adds an alarm
 pub record TellsAlarm (code : CodedLog) (first width : ℕ) (alarm : AlarmState) (after : List ChainEnd) (then later : List Lit) : Type 0 where
   pub begins : alarm.start ≡ first
-  pub last : IsCodedAlarm (code_after code (alarm_added (nameless alarm.labels alarm.doubtful)) first) (length code.log.alarms) alarm
-  pub chains : AreEnds (code_after code (alarm_added (nameless alarm.labels alarm.doubtful)) first) after then
-  pub false_ones : AreFalse (code_after code (alarm_added (nameless alarm.labels alarm.doubtful)) first) later
-  pub after_it : IsAfter code (alarm_added (nameless alarm.labels alarm.doubtful)) first width (first + width)
+  pub last : IsCodedAlarm (code_after code (alarm_added alarm.noted) first) (length code.log.alarms) alarm
+  pub chains : AreEnds (code_after code (alarm_added alarm.noted) first) after then
+  pub false_ones : AreFalse (code_after code (alarm_added alarm.noted) first) later
+  pub after_it : IsAfter code (alarm_added alarm.noted) first width (first + width)
 
 pub tells_alarm : (d : DraftInside) (code : CodedLog) (alarm : AlarmState) (after : Vec ChainEnd Global) (then later : Vec Lit Global) → IsReadyDraft d → d.change ≡ Alarm alarm after then later → d.code.value.coded ≡ code → TellsAlarm code d.first d.vars alarm after.items then.items later.items
 tells_alarm d code alarm after then later ready is same =

@@ -21,7 +21,7 @@ use Rattle.log_encode.proofs.StayLemmas.{named_still}
 use Rattle.log_encode.proofs.TakenLemmas.{taken_are_events, taken_is_filter}
 use Rattle.replay.specs.Explanation.{has_any_label}
 use Rattle.log_encode.specs.AlarmVariables.{done_variable}
-use Rattle.log_encode.specs.CodedLog.{CodedLog, log_meanings, meanings_from, read_meanings, code_after, empty_code, nameless, IsCodedLog}
+use Rattle.log_encode.specs.CodedLog.{CodedLog, log_meanings, meanings_from, read_meanings, code_after, empty_code, IsCodedLog}
 use Rattle.log_encode.specs.declared.taken.ChainEnd.{ChainEnd}
 use Rattle.log_encode.specs.View.{IsChainEnd, IsRest}
 use Rattle.log_encode.specs.Written.{taken_from, rest_variable, link_written, link_variables, steps_of_link, links_written, done_written, real_written, alarm_written, pair_written, closed_written, all_closed_written}
@@ -58,17 +58,17 @@ rest_named code new first e t (Some start) coded grown known time is =
 
 -- ---- the links
 
-link_named : (code : CodedLog) (labels : List (List ℕ)) (maybe : Bool) (first links link e t : ℕ) (last : Option ℕ) → IsCodedLog code → IsCodedLog (code_after code (alarm_added (nameless labels maybe)) first) → code.vars ≤ first → e < code.grid.events → t < code.grid.steps →
-    slice_get (taken_events code.net code.log (nameless labels maybe)) link ≡ Some e → length (taken_events code.net code.log (nameless labels maybe)) ≡ links → IsRest code e last →
-    AreLinkNames (read_meanings (code_after code (alarm_added (nameless labels maybe)) first)) (length code.log.alarms) e (length (chain code.net code.log e)) t
-    (link_variables code.grid (new_vars code first links maybe) link (record { event = e; last = last }) t)
-link_named code labels maybe first links link e t last coded grown above known time at count is =
-    let there = places code labels maybe first coded above in
-    let more : (v : ℕ) (x : Meaning) → meaning_of (log_meanings (code_after code (alarm_added (nameless labels maybe)) first)) v ≡ Some x → meaning_of (read_meanings (code_after code (alarm_added (nameless labels maybe)) first)) v ≡ Some x =
-    λ v x h. lifted (code_after code (alarm_added (nameless labels maybe)) first) v x grown h in
-    let finished : (u : ℕ) → u ≤ code.grid.steps → meaning_of (log_meanings (code_after code (alarm_added (nameless labels maybe)) first)) (done_variable (new_vars code first links maybe) u) ≡ Some (done (length code.log.alarms) u) = λ u within. subst (λ k. meaning_of (log_meanings (code_after code (alarm_added (nameless labels maybe)) first)) (first + (k * (1 + code.grid.steps * 2) + u)) ≡ Some (done (length code.log.alarms) u)) count (there.being_done u within) in record {
+link_named : (code : CodedLog) (new : Alarm) (first links link e t : ℕ) (last : Option ℕ) → IsCodedLog code → IsCodedLog (code_after code (alarm_added new) first) → code.vars ≤ first → e < code.grid.events → t < code.grid.steps →
+    slice_get (taken_events code.net code.log new) link ≡ Some e → length (taken_events code.net code.log new) ≡ links → IsRest code e last →
+    AreLinkNames (read_meanings (code_after code (alarm_added new) first)) (length code.log.alarms) e (length (chain code.net code.log e)) t
+    (link_variables code.grid (new_vars code first links new.doubtful) link (record { event = e; last = last }) t)
+link_named code new first links link e t last coded grown above known time at count is =
+    let there = places code new first coded above in
+    let more : (v : ℕ) (x : Meaning) → meaning_of (log_meanings (code_after code (alarm_added new) first)) v ≡ Some x → meaning_of (read_meanings (code_after code (alarm_added new) first)) v ≡ Some x =
+    λ v x h. lifted (code_after code (alarm_added new) first) v x grown h in
+    let finished : (u : ℕ) → u ≤ code.grid.steps → meaning_of (log_meanings (code_after code (alarm_added new) first)) (done_variable (new_vars code first links new.doubtful) u) ≡ Some (done (length code.log.alarms) u) = λ u within. subst (λ k. meaning_of (log_meanings (code_after code (alarm_added new) first)) (first + (k * (1 + code.grid.steps * 2) + u)) ≡ Some (done (length code.log.alarms) u)) count (there.being_done u within) in record {
       closing = more _ _ (there.closing link e at);
-      rest = rest_named code (nameless labels maybe) first e t last coded grown known time is;
+      rest = rest_named code new first e t last coded grown known time is;
       matching = more _ _ (there.matching link e t at time);
       passing = more _ _ (there.passing link e t at time);
       before = more _ _ (finished t (omega arith));
@@ -76,50 +76,50 @@ link_named code labels maybe first links link e t last coded grown above known t
     }
 
 -- those of the ends from one on, after links before
-links_read : (code : CodedLog) (labels : List (List ℕ)) (maybe : Bool) (first links : ℕ) (before : List ℕ) (ends : List ChainEnd) → IsCodedLog code → IsCodedLog (code_after code (alarm_added (nameless labels maybe)) first) → code.vars ≤ first →
-    length (taken_events code.net code.log (nameless labels maybe)) ≡ links →
-    taken_events code.net code.log (nameless labels maybe) ≡ before ++ filter (has_any_label code.net labels) (map (λ (end : ChainEnd). end.event) ends) →
+links_read : (code : CodedLog) (new : Alarm) (first links : ℕ) (before : List ℕ) (ends : List ChainEnd) → IsCodedLog code → IsCodedLog (code_after code (alarm_added new) first) → code.vars ≤ first →
+    length (taken_events code.net code.log new) ≡ links →
+    taken_events code.net code.log new ≡ before ++ filter (has_any_label code.net new.labels) (map (λ (end : ChainEnd). end.event) ends) →
     AllByRecursion (λ (end : ChainEnd). end.event < code.grid.events) ends → AllByRecursion (IsChainEnd code) ends →
-    AllZip (Reads code.net (with_addition code.log (alarm_added (nameless labels maybe))) code.grid.steps (read_meanings (code_after code (alarm_added (nameless labels maybe)) first)))
-    (links_written code.grid (new_vars code first links maybe) (length before) (taken_from code.net labels ends))
-    (flat_map (λ e. flat_map (alarm_link_clauses (length code.log.alarms) e (length (chain code.net code.log e))) (numbers_below code.grid.steps)) (filter (has_any_label code.net labels) (map (λ (end : ChainEnd). end.event) ends)))
-links_read code labels maybe first links before [] coded grown above count are known all = tt
-links_read code labels maybe first links before (end ∷ ends) coded grown above count are known all =
-    by (has_any_label code.net labels end.event) refl (λ earlier same. links_read code labels maybe first links earlier ends coded grown above count same known.1 all.1)
+    AllZip (Reads code.net (with_addition code.log (alarm_added new)) code.grid.steps (read_meanings (code_after code (alarm_added new) first)))
+    (links_written code.grid (new_vars code first links new.doubtful) (length before) (taken_from code.net new.labels ends))
+    (flat_map (λ e. flat_map (alarm_link_clauses (length code.log.alarms) e (length (chain code.net code.log e))) (numbers_below code.grid.steps)) (filter (has_any_label code.net new.labels) (map (λ (end : ChainEnd). end.event) ends)))
+links_read code new first links before [] coded grown above count are known all = tt
+links_read code new first links before (end ∷ ends) coded grown above count are known all =
+    by (has_any_label code.net new.labels end.event) refl (λ earlier same. links_read code new first links earlier ends coded grown above count same known.1 all.1)
   where
     rest : List ℕ
-    rest = filter (has_any_label code.net labels) (map (λ (x : ChainEnd). x.event) ends)
+    rest = filter (has_any_label code.net new.labels) (map (λ (x : ChainEnd). x.event) ends)
 
-    by : (b : Bool) → has_any_label code.net labels end.event ≡ b →
-        ((earlier : List ℕ) → taken_events code.net code.log (nameless labels maybe) ≡ earlier ++ filter (has_any_label code.net labels) (map (λ (x : ChainEnd). x.event) ends) →
-        AllZip (Reads code.net (with_addition code.log (alarm_added (nameless labels maybe))) code.grid.steps (read_meanings (code_after code (alarm_added (nameless labels maybe)) first)))
-        (links_written code.grid (new_vars code first links maybe) (length earlier) (taken_from code.net labels ends))
-        (flat_map (λ e. flat_map (alarm_link_clauses (length code.log.alarms) e (length (chain code.net code.log e))) (numbers_below code.grid.steps)) (filter (has_any_label code.net labels) (map (λ (x : ChainEnd). x.event) ends)))) →
-        AllZip (Reads code.net (with_addition code.log (alarm_added (nameless labels maybe))) code.grid.steps (read_meanings (code_after code (alarm_added (nameless labels maybe)) first)))
-        (links_written code.grid (new_vars code first links maybe) (length before) (taken_from code.net labels (end ∷ ends)))
-        (flat_map (λ e. flat_map (alarm_link_clauses (length code.log.alarms) e (length (chain code.net code.log e))) (numbers_below code.grid.steps)) (filter (has_any_label code.net labels) (map (λ (x : ChainEnd). x.event) (end ∷ ends))))
+    by : (b : Bool) → has_any_label code.net new.labels end.event ≡ b →
+        ((earlier : List ℕ) → taken_events code.net code.log new ≡ earlier ++ filter (has_any_label code.net new.labels) (map (λ (x : ChainEnd). x.event) ends) →
+        AllZip (Reads code.net (with_addition code.log (alarm_added new)) code.grid.steps (read_meanings (code_after code (alarm_added new) first)))
+        (links_written code.grid (new_vars code first links new.doubtful) (length earlier) (taken_from code.net new.labels ends))
+        (flat_map (λ e. flat_map (alarm_link_clauses (length code.log.alarms) e (length (chain code.net code.log e))) (numbers_below code.grid.steps)) (filter (has_any_label code.net new.labels) (map (λ (x : ChainEnd). x.event) ends)))) →
+        AllZip (Reads code.net (with_addition code.log (alarm_added new)) code.grid.steps (read_meanings (code_after code (alarm_added new) first)))
+        (links_written code.grid (new_vars code first links new.doubtful) (length before) (taken_from code.net new.labels (end ∷ ends)))
+        (flat_map (λ e. flat_map (alarm_link_clauses (length code.log.alarms) e (length (chain code.net code.log e))) (numbers_below code.grid.steps)) (filter (has_any_label code.net new.labels) (map (λ (x : ChainEnd). x.event) (end ∷ ends))))
     by true is later =
-        let split : taken_events code.net code.log (nameless labels maybe) ≡ before ++ end.event ∷ filter (has_any_label code.net labels) (map (λ (x : ChainEnd). x.event) ends) = are ∙ rw is refl in
-        let at : slice_get (taken_events code.net code.log (nameless labels maybe)) (length before) ≡ Some end.event = rw split (get_at before (filter (has_any_label code.net labels) (map (λ (x : ChainEnd). x.event) ends)) end.event) in
+        let split : taken_events code.net code.log new ≡ before ++ end.event ∷ filter (has_any_label code.net new.labels) (map (λ (x : ChainEnd). x.event) ends) = are ∙ rw is refl in
+        let at : slice_get (taken_events code.net code.log new) (length before) ≡ Some end.event = rw split (get_at before (filter (has_any_label code.net new.labels) (map (λ (x : ChainEnd). x.event) ends)) end.event) in
         let one : length (before ++ end.event ∷ []) ≡ suc (length before) = omega (arith, length-append before (end.event ∷ [])) in
-        let others = later (before ++ end.event ∷ []) (split ∙ sym (append_assoc before (end.event ∷ []) (filter (has_any_label code.net labels) (map (λ (x : ChainEnd). x.event) ends)))) in
-        let here = zip_flat (Reads code.net (with_addition code.log (alarm_added (nameless labels maybe))) code.grid.steps (read_meanings (code_after code (alarm_added (nameless labels maybe)) first)))
-        (λ t. link_written (link_variables code.grid (new_vars code first links maybe) (length before) (record { event = end.event; last = end.last }) t))
+        let others = later (before ++ end.event ∷ []) (split ∙ sym (append_assoc before (end.event ∷ []) (filter (has_any_label code.net new.labels) (map (λ (x : ChainEnd). x.event) ends)))) in
+        let here = zip_flat (Reads code.net (with_addition code.log (alarm_added new)) code.grid.steps (read_meanings (code_after code (alarm_added new) first)))
+        (λ t. link_written (link_variables code.grid (new_vars code first links new.doubtful) (length before) (record { event = end.event; last = end.last }) t))
         (alarm_link_clauses (length code.log.alarms) end.event (length (chain code.net code.log end.event))) 0 code.grid.steps
-        (λ t h. link_reads code.net (with_addition code.log (alarm_added (nameless labels maybe))) code.grid.steps (read_meanings (code_after code (alarm_added (nameless labels maybe)) first)) (length code.log.alarms) end.event (length (chain code.net code.log end.event)) t
-        (link_variables code.grid (new_vars code first links maybe) (length before) (record { event = end.event; last = end.last }) t)
-        (link_named code labels maybe first links (length before) end.event t end.last coded grown above known.0 (omega (arith, h)) at count all.0.rest)) in
-        rw is (zip_append (Reads code.net (with_addition code.log (alarm_added (nameless labels maybe))) code.grid.steps (read_meanings (code_after code (alarm_added (nameless labels maybe)) first)))
-        (steps_of_link code.grid (new_vars code first links maybe) (length before) (record { event = end.event; last = end.last }) code.grid.steps)
+        (λ t h. link_reads code.net (with_addition code.log (alarm_added new)) code.grid.steps (read_meanings (code_after code (alarm_added new) first)) (length code.log.alarms) end.event (length (chain code.net code.log end.event)) t
+        (link_variables code.grid (new_vars code first links new.doubtful) (length before) (record { event = end.event; last = end.last }) t)
+        (link_named code new first links (length before) end.event t end.last coded grown above known.0 (omega (arith, h)) at count all.0.rest)) in
+        rw is (zip_append (Reads code.net (with_addition code.log (alarm_added new)) code.grid.steps (read_meanings (code_after code (alarm_added new) first)))
+        (steps_of_link code.grid (new_vars code first links new.doubtful) (length before) (record { event = end.event; last = end.last }) code.grid.steps)
         (flat_map (alarm_link_clauses (length code.log.alarms) end.event (length (chain code.net code.log end.event))) (numbers_below code.grid.steps))
-        (links_written code.grid (new_vars code first links maybe) (suc (length before)) (taken_from code.net labels ends))
-        (flat_map (λ e. flat_map (alarm_link_clauses (length code.log.alarms) e (length (chain code.net code.log e))) (numbers_below code.grid.steps)) (filter (has_any_label code.net labels) (map (λ (x : ChainEnd). x.event) ends)))
+        (links_written code.grid (new_vars code first links new.doubtful) (suc (length before)) (taken_from code.net new.labels ends))
+        (flat_map (λ e. flat_map (alarm_link_clauses (length code.log.alarms) e (length (chain code.net code.log e))) (numbers_below code.grid.steps)) (filter (has_any_label code.net new.labels) (map (λ (x : ChainEnd). x.event) ends)))
         here
-        (subst (λ k. AllZip (Reads code.net (with_addition code.log (alarm_added (nameless labels maybe))) code.grid.steps (read_meanings (code_after code (alarm_added (nameless labels maybe)) first)))
-        (links_written code.grid (new_vars code first links maybe) k (taken_from code.net labels ends))
-        (flat_map (λ e. flat_map (alarm_link_clauses (length code.log.alarms) e (length (chain code.net code.log e))) (numbers_below code.grid.steps)) (filter (has_any_label code.net labels) (map (λ (x : ChainEnd). x.event) ends)))) one others))
+        (subst (λ k. AllZip (Reads code.net (with_addition code.log (alarm_added new)) code.grid.steps (read_meanings (code_after code (alarm_added new) first)))
+        (links_written code.grid (new_vars code first links new.doubtful) k (taken_from code.net new.labels ends))
+        (flat_map (λ e. flat_map (alarm_link_clauses (length code.log.alarms) e (length (chain code.net code.log e))) (numbers_below code.grid.steps)) (filter (has_any_label code.net new.labels) (map (λ (x : ChainEnd). x.event) ends)))) one others))
     by false is later =
-        let same : taken_events code.net code.log (nameless labels maybe) ≡ before ++ filter (has_any_label code.net labels) (map (λ (x : ChainEnd). x.event) ends) = are ∙ rw is refl in
+        let same : taken_events code.net code.log new ≡ before ++ filter (has_any_label code.net new.labels) (map (λ (x : ChainEnd). x.event) ends) = are ∙ rw is refl in
         rw is (later before same)
 
 -- ---- the whole draft of an alarm
@@ -129,63 +129,63 @@ asked_named code =
     let here : meaning_of (laid_out code.asked (first_meanings code.net)) code.asked ≡ Some asked = subst (λ v. meaning_of (laid_out code.asked (first_meanings code.net)) v ≡ Some asked) (omega arith) (named_at code.asked (first_meanings code.net) 0 asked refl) in
     found_more (laid_out code.asked (first_meanings code.net)) (meanings_from code.net code.grid.steps no_log code.log.alarms code.starts) code.asked asked here
 
-alarm_named : (code : CodedLog) (labels : List (List ℕ)) (maybe : Bool) (first links : ℕ) → IsCodedLog code → IsCodedLog (code_after code (alarm_added (nameless labels maybe)) first) → code.vars ≤ first → length (taken_events code.net code.log (nameless labels maybe)) ≡ links →
-    AreAlarmNames (read_meanings (code_after code (alarm_added (nameless labels maybe)) first)) code.grid.steps (length code.log.alarms) (taken_events code.net code.log (nameless labels maybe)) (new_vars code first links maybe)
-alarm_named code labels maybe first links coded grown above count =
-    let there = places code labels maybe first coded above in
-    let more : (v : ℕ) (x : Meaning) → meaning_of (log_meanings (code_after code (alarm_added (nameless labels maybe)) first)) v ≡ Some x → meaning_of (read_meanings (code_after code (alarm_added (nameless labels maybe)) first)) v ≡ Some x =
-    λ v x h. lifted (code_after code (alarm_added (nameless labels maybe)) first) v x grown h in record {
+alarm_named : (code : CodedLog) (new : Alarm) (first links : ℕ) → IsCodedLog code → IsCodedLog (code_after code (alarm_added new) first) → code.vars ≤ first → length (taken_events code.net code.log new) ≡ links →
+    AreAlarmNames (read_meanings (code_after code (alarm_added new) first)) code.grid.steps (length code.log.alarms) (taken_events code.net code.log new) (new_vars code first links new.doubtful)
+alarm_named code new first links coded grown above count =
+    let there = places code new first coded above in
+    let more : (v : ℕ) (x : Meaning) → meaning_of (log_meanings (code_after code (alarm_added new) first)) v ≡ Some x → meaning_of (read_meanings (code_after code (alarm_added new) first)) v ≡ Some x =
+    λ v x h. lifted (code_after code (alarm_added new) first) v x grown h in record {
       links = sym count;
       steps = refl;
       matching = λ p e t at time. more _ _ (there.matching p e t at time);
-      being_done = λ t within. more _ _ (subst (λ k. meaning_of (log_meanings (code_after code (alarm_added (nameless labels maybe)) first)) (first + (k * (1 + code.grid.steps * 2) + t)) ≡ Some (done (length code.log.alarms) t)) count (there.being_done t within));
+      being_done = λ t within. more _ _ (subst (λ k. meaning_of (log_meanings (code_after code (alarm_added new) first)) (first + (k * (1 + code.grid.steps * 2) + t)) ≡ Some (done (length code.log.alarms) t)) count (there.being_done t within));
       chaining = λ t time k below.
-          let links : chain_count links ≡ chain_count (length (taken_events code.net code.log (nameless labels maybe))) = ap chain_count (sym count) in
+          let links : chain_count links ≡ chain_count (length (taken_events code.net code.log new)) = ap chain_count (sym count) in
           let meaning = there.chaining t time k (subst (λ m. k < m) links below) in
-          more _ _ (subst (λ m. meaning_of (log_meanings (code_after code (alarm_added (nameless labels maybe)) first)) (first + (m * (1 + code.grid.steps * 2) + (suc code.grid.steps + t * chain_count m)) + k) ≡ Some (some_of_first (of_matches (length code.log.alarms) (suc t)) (suc k))) count meaning);
-      being_false = λ h. more _ _ (subst (λ m. meaning_of (log_meanings (code_after code (alarm_added (nameless labels maybe)) first)) (first + (m * (1 + code.grid.steps * 2) + (suc code.grid.steps + code.grid.steps * chain_count m))) ≡ Some (dropped (length code.log.alarms))) count (there.being_false h));
+          more _ _ (subst (λ m. meaning_of (log_meanings (code_after code (alarm_added new) first)) (first + (m * (1 + code.grid.steps * 2) + (suc code.grid.steps + t * chain_count m)) + k) ≡ Some (some_of_first (of_matches (length code.log.alarms) (suc t)) (suc k))) count meaning);
+      being_false = λ h. more _ _ (subst (λ m. meaning_of (log_meanings (code_after code (alarm_added new) first)) (first + (m * (1 + code.grid.steps * 2) + (suc code.grid.steps + code.grid.steps * chain_count m))) ≡ Some (dropped (length code.log.alarms))) count (there.being_false h));
     }
 
-alarm_listed : (code : CodedLog) (labels : List (List ℕ)) (maybe : Bool) (first : ℕ) (ends : List ChainEnd) → IsCodedLog code → IsCodedLog (code_after code (alarm_added (nameless labels maybe)) first) → code.vars ≤ first →
+alarm_listed : (code : CodedLog) (new : Alarm) (first : ℕ) (ends : List ChainEnd) → IsCodedLog code → IsCodedLog (code_after code (alarm_added new) first) → code.vars ≤ first →
     map (λ (end : ChainEnd). end.event) ends ≡ observable_events code.net → AllByRecursion (λ (end : ChainEnd). end.event < code.grid.events) ends → AllByRecursion (IsChainEnd code) ends →
-    AllZip (Reads code.net (with_addition code.log (alarm_added (nameless labels maybe))) code.grid.steps (read_meanings (code_after code (alarm_added (nameless labels maybe)) first)))
-    (alarm_written code.grid code.asked (new_vars code first (length (taken_from code.net labels ends)) maybe) (taken_from code.net labels ends))
-    (added_clauses code.net code.log code.grid.steps (alarm_added (nameless labels maybe)))
-alarm_listed code labels maybe first ends coded grown above are known all =
-    let log = with_addition code.log (alarm_added (nameless labels maybe)) in
-    let names = read_meanings (code_after code (alarm_added (nameless labels maybe)) first) in
-    let count = taken_count code labels maybe ends are in
-    let found : taken_events code.net code.log (nameless labels maybe) ≡ filter (has_any_label code.net labels) (map (λ (end : ChainEnd). end.event) ends) =
-    sym (taken_are_events code.net code.log labels maybe ends are) ∙ taken_is_filter code.net labels ends in
-    let vars = new_vars code first (length (taken_from code.net labels ends)) maybe in
-    let linked = links_read code labels maybe first (length (taken_from code.net labels ends)) [] ends coded grown above count found known all in
-    let finished = done_reads code.net log code.grid.steps names (length code.log.alarms) code.asked (taken_events code.net code.log (nameless labels maybe)) vars
-    (lifted (code_after code (alarm_added (nameless labels maybe)) first) code.asked asked grown (asked_named (code_after code (alarm_added (nameless labels maybe)) first))) refl (doubtful_new code.log (nameless labels maybe))
-    (alarm_named code labels maybe first (length (taken_from code.net labels ends)) coded grown above count) in
-    let reals = real_reads code.net log code.grid.steps names (length code.log.alarms) (taken_events code.net code.log (nameless labels maybe)) vars (alarm_named code labels maybe first (length (taken_from code.net labels ends)) coded grown above count) in
-    zip_append (Reads code.net log code.grid.steps names) (links_written code.grid vars 0 (taken_from code.net labels ends) ++ done_written code.asked vars) (alarm_clauses code.net code.log code.grid.steps (nameless labels maybe))
-    (real_written vars) (real_clauses maybe (length code.log.alarms) (taken_events code.net code.log (nameless labels maybe)) code.grid.steps)
-    (zip_append (Reads code.net log code.grid.steps names) (links_written code.grid vars 0 (taken_from code.net labels ends))
-    (flat_map (λ e. flat_map (alarm_link_clauses (length code.log.alarms) e (length (chain code.net code.log e))) (numbers_below code.grid.steps)) (taken_events code.net code.log (nameless labels maybe)))
+    AllZip (Reads code.net (with_addition code.log (alarm_added new)) code.grid.steps (read_meanings (code_after code (alarm_added new) first)))
+    (alarm_written code.grid code.asked (new_vars code first (length (taken_from code.net new.labels ends)) new.doubtful) (taken_from code.net new.labels ends))
+    (added_clauses code.net code.log code.grid.steps (alarm_added new))
+alarm_listed code new first ends coded grown above are known all =
+    let log = with_addition code.log (alarm_added new) in
+    let names = read_meanings (code_after code (alarm_added new) first) in
+    let count = taken_count code new ends are in
+    let found : taken_events code.net code.log new ≡ filter (has_any_label code.net new.labels) (map (λ (end : ChainEnd). end.event) ends) =
+    sym (taken_are_events code.net code.log new ends are) ∙ taken_is_filter code.net new.labels ends in
+    let vars = new_vars code first (length (taken_from code.net new.labels ends)) new.doubtful in
+    let linked = links_read code new first (length (taken_from code.net new.labels ends)) [] ends coded grown above count found known all in
+    let finished = done_reads code.net log code.grid.steps names (length code.log.alarms) code.asked (taken_events code.net code.log new) vars
+    (lifted (code_after code (alarm_added new) first) code.asked asked grown (asked_named (code_after code (alarm_added new) first))) refl (doubtful_new code.log new)
+    (alarm_named code new first (length (taken_from code.net new.labels ends)) coded grown above count) in
+    let reals = real_reads code.net log code.grid.steps names (length code.log.alarms) (taken_events code.net code.log new) vars (alarm_named code new first (length (taken_from code.net new.labels ends)) coded grown above count) in
+    zip_append (Reads code.net log code.grid.steps names) (links_written code.grid vars 0 (taken_from code.net new.labels ends) ++ done_written code.asked vars) (alarm_clauses code.net code.log code.grid.steps new)
+    (real_written vars) (real_clauses new.doubtful (length code.log.alarms) (taken_events code.net code.log new) code.grid.steps)
+    (zip_append (Reads code.net log code.grid.steps names) (links_written code.grid vars 0 (taken_from code.net new.labels ends))
+    (flat_map (λ e. flat_map (alarm_link_clauses (length code.log.alarms) e (length (chain code.net code.log e))) (numbers_below code.grid.steps)) (taken_events code.net code.log new))
     (done_written code.asked vars) _
-    (subst (λ es. AllZip (Reads code.net log code.grid.steps names) (links_written code.grid vars 0 (taken_from code.net labels ends))
+    (subst (λ es. AllZip (Reads code.net log code.grid.steps names) (links_written code.grid vars 0 (taken_from code.net new.labels ends))
     (flat_map (λ e. flat_map (alarm_link_clauses (length code.log.alarms) e (length (chain code.net code.log e))) (numbers_below code.grid.steps)) es)) (sym found) linked) finished) reals
 
 -- what is written of a new alarm is what it brings, and no more than its size allows
-pub alarm_brings : (code : CodedLog) (labels : List (List ℕ)) (maybe : Bool) (first : ℕ) (ends : List ChainEnd) → IsCodedLog code → IsCodedLog (code_after code (alarm_added (nameless labels maybe)) first) → code.vars ≤ first →
+pub alarm_brings : (code : CodedLog) (new : Alarm) (first : ℕ) (ends : List ChainEnd) → IsCodedLog code → IsCodedLog (code_after code (alarm_added new) first) → code.vars ≤ first →
     map (λ (end : ChainEnd). end.event) ends ≡ observable_events code.net → AllByRecursion (λ (end : ChainEnd). end.event < code.grid.events) ends → AllByRecursion (IsChainEnd code) ends →
-    IsListed (read_meanings (code_after code (alarm_added (nameless labels maybe)) first)) (added_list code.net code.log code.grid.steps (alarm_added (nameless labels maybe)))
-    (alarm_written code.grid code.asked (new_vars code first (length (taken_from code.net labels ends)) maybe) (taken_from code.net labels ends))
-    × (length (alarm_written code.grid code.asked (new_vars code first (length (taken_from code.net labels ends)) maybe) (taken_from code.net labels ends)) + 12 * question_size code.net code.log code.grid.steps
-    ≤ 12 * question_size code.net (with_addition code.log (alarm_added (nameless labels maybe))) code.grid.steps + 12)
-alarm_brings code labels maybe first ends coded grown above are known all =
-    let vars = new_vars code first (length (taken_from code.net labels ends)) maybe in
-    let takes = taken_from code.net labels ends in
-    let names = read_meanings (code_after code (alarm_added (nameless labels maybe)) first) in
-    let listed = alarm_listed code labels maybe first ends coded grown above are known all in
-    let counted = zip_count (Reads code.net (with_addition code.log (alarm_added (nameless labels maybe))) code.grid.steps names) (alarm_written code.grid code.asked vars takes) (added_clauses code.net code.log code.grid.steps (alarm_added (nameless labels maybe))) listed in
-    let small = drafts_are_small code.net code.log code.grid.steps (alarm_added (nameless labels maybe)) in (
-      listed_from names (log_clause code.net (with_addition code.log (alarm_added (nameless labels maybe))) code.grid.steps) (alarm_written code.grid code.asked vars takes) (added_clauses code.net code.log code.grid.steps (alarm_added (nameless labels maybe))) listed,
+    IsListed (read_meanings (code_after code (alarm_added new) first)) (added_list code.net code.log code.grid.steps (alarm_added new))
+    (alarm_written code.grid code.asked (new_vars code first (length (taken_from code.net new.labels ends)) new.doubtful) (taken_from code.net new.labels ends))
+    × (length (alarm_written code.grid code.asked (new_vars code first (length (taken_from code.net new.labels ends)) new.doubtful) (taken_from code.net new.labels ends)) + 12 * question_size code.net code.log code.grid.steps
+    ≤ 12 * question_size code.net (with_addition code.log (alarm_added new)) code.grid.steps + 12)
+alarm_brings code new first ends coded grown above are known all =
+    let vars = new_vars code first (length (taken_from code.net new.labels ends)) new.doubtful in
+    let takes = taken_from code.net new.labels ends in
+    let names = read_meanings (code_after code (alarm_added new) first) in
+    let listed = alarm_listed code new first ends coded grown above are known all in
+    let counted = zip_count (Reads code.net (with_addition code.log (alarm_added new)) code.grid.steps names) (alarm_written code.grid code.asked vars takes) (added_clauses code.net code.log code.grid.steps (alarm_added new)) listed in
+    let small = drafts_are_small code.net code.log code.grid.steps (alarm_added new) in (
+      listed_from names (log_clause code.net (with_addition code.log (alarm_added new)) code.grid.steps) (alarm_written code.grid code.asked vars takes) (added_clauses code.net code.log code.grid.steps (alarm_added new)) listed,
       omega (arith, small, counted),
     )
 

@@ -12,4 +12,5 @@ mod CallLemmas
 mod CommitLemmas
 pub mod WrittenLemmas
 mod LogEndLemmas
+mod Nameless
 pub mod Guards

@@ -13,7 +13,7 @@ use Rattle.question_clauses.proofs.Stay.{matching_same, chain_is, doubtful_same}
 use Rattle.log_encode.proofs.CodeLemmas.{names_with_alarm}
 use Rattle.log_encode.proofs.TakenLemmas.{suits_new}
 use Rattle.log_encode.specs.AlarmState.{AlarmState}
-use Rattle.log_encode.specs.CodedLog.{CodedLog, log_meanings, code_after, addition_width, nameless, IsCodedLog}
+use Rattle.log_encode.specs.CodedLog.{CodedLog, log_meanings, code_after, addition_width, IsCodedLog}
 use Rattle.log_encode.specs.declared.taken.ChainEnd.{ChainEnd}
 use Rattle.log_encode.specs.View.{IsChainEnd, IsRest, AreEnds, AreFalse, IsCodedAlarm, AreKept, coded_of}
 use Rattle.prop_core.proofs.NameLemmas.{found_more}
@@ -115,26 +115,26 @@ get_snoc P (y ∷ xs) new each last (suc i) x at = get_snoc (λ k. P (suc k)) xs
 
 -- the code with a further alarm is the code after its addition
 pub coded_with_alarm : (net : Net) (grid : Grid) (asked vars first : ℕ) (alarms : List AlarmState) (pairs : List (ℕ × ℕ)) (alarm : AlarmState) → alarm.start ≡ first →
-    coded_of net grid asked (first + addition_width (coded_of net grid asked vars alarms pairs) (alarm_added (nameless alarm.labels alarm.doubtful))) (alarms ++ alarm ∷ []) pairs
-    ≡ code_after (coded_of net grid asked vars alarms pairs) (alarm_added (nameless alarm.labels alarm.doubtful)) first
+    coded_of net grid asked (first + addition_width (coded_of net grid asked vars alarms pairs) (alarm_added alarm.noted)) (alarms ++ alarm ∷ []) pairs
+    ≡ code_after (coded_of net grid asked vars alarms pairs) (alarm_added alarm.noted) first
 coded_with_alarm net grid asked vars first alarms pairs alarm begins =
     let code = coded_of net grid asked vars alarms pairs in
-    let labels = map_snoc (λ (a : AlarmState). nameless a.labels a.doubtful) alarms alarm in
+    let labels = map_snoc (λ (a : AlarmState). a.noted) alarms alarm in
     let starts = map_snoc (λ (a : AlarmState). a.start) alarms alarm ∙ ap (λ v. map (λ (a : AlarmState). a.start) alarms ++ v ∷ []) begins in
-    ap (λ xs. let made : CodedLog = record { net = net; grid = grid; log = (a_log xs pairs); asked = asked; starts = map (λ (a : AlarmState). a.start) (alarms ++ alarm ∷ []); vars = first + addition_width code (alarm_added (nameless alarm.labels alarm.doubtful)) } in made) labels
-    ∙ ap (λ xs. let made : CodedLog = record { net = net; grid = grid; log = (a_log (map (λ (a : AlarmState). nameless a.labels a.doubtful) alarms ++ nameless alarm.labels alarm.doubtful ∷ []) pairs); asked = asked; starts = xs; vars = first + addition_width code (alarm_added (nameless alarm.labels alarm.doubtful)) } in made) starts
+    ap (λ xs. let made : CodedLog = record { net = net; grid = grid; log = (a_log xs pairs); asked = asked; starts = map (λ (a : AlarmState). a.start) (alarms ++ alarm ∷ []); vars = first + addition_width code (alarm_added alarm.noted) } in made) labels
+    ∙ ap (λ xs. let made : CodedLog = record { net = net; grid = grid; log = (a_log (map (λ (a : AlarmState). a.noted) alarms ++ alarm.noted ∷ []) pairs); asked = asked; starts = xs; vars = first + addition_width code (alarm_added alarm.noted) } in made) starts
 
 pub kept_with_alarm : (code : CodedLog) (first : ℕ) (ends after : List ChainEnd) (guards then dropped later : List Lit) (alarms : List AlarmState) (alarm : AlarmState) → length code.log.alarms ≡ length alarms →
-    IsCodedLog (code_after code (alarm_added (nameless alarm.labels alarm.doubtful)) first) → code.vars ≤ first → AreKept code ends guards dropped alarms →
-    AreEnds (code_after code (alarm_added (nameless alarm.labels alarm.doubtful)) first) after then → AreFalse (code_after code (alarm_added (nameless alarm.labels alarm.doubtful)) first) later → IsCodedAlarm (code_after code (alarm_added (nameless alarm.labels alarm.doubtful)) first) (length code.log.alarms) alarm →
-    AreKept (code_after code (alarm_added (nameless alarm.labels alarm.doubtful)) first) after then later (alarms ++ alarm ∷ [])
+    IsCodedLog (code_after code (alarm_added alarm.noted) first) → code.vars ≤ first → AreKept code ends guards dropped alarms →
+    AreEnds (code_after code (alarm_added alarm.noted) first) after then → AreFalse (code_after code (alarm_added alarm.noted) first) later → IsCodedAlarm (code_after code (alarm_added alarm.noted) first) (length code.log.alarms) alarm →
+    AreKept (code_after code (alarm_added alarm.noted) first) after then later (alarms ++ alarm ∷ [])
 kept_with_alarm code first ends after guards then dropped later alarms alarm count coded above kept chains false_ones is = record {
   log = coded;
   chains = chains;
   false_ones = false_ones;
-  alarms = get_snoc (IsCodedAlarm (code_after code (alarm_added (nameless alarm.labels alarm.doubtful)) first)) alarms alarm
-      (λ i a at. alarm_stays code (nameless alarm.labels alarm.doubtful) first i a kept.log above (omega (arith, count, got_within alarms i a at)) (kept.alarms i a at))
-      (subst (λ k. IsCodedAlarm (code_after code (alarm_added (nameless alarm.labels alarm.doubtful)) first) k alarm) count is);
+  alarms = get_snoc (IsCodedAlarm (code_after code (alarm_added alarm.noted) first)) alarms alarm
+      (λ i a at. alarm_stays code alarm.noted first i a kept.log above (omega (arith, count, got_within alarms i a at)) (kept.alarms i a at))
+      (subst (λ k. IsCodedAlarm (code_after code (alarm_added alarm.noted) first) k alarm) count is);
 }
   where
     got_within : (xs : List AlarmState) (i : ℕ) (a : AlarmState) → slice_get xs i ≡ Some a → i < length xs

@@ -15,7 +15,6 @@ use Rattle.question_clauses.specs.LogClauses.{chain}
 use Rattle.question_clauses.specs.LogNames.{added_meanings, alarm_meanings, match_chains, false_meanings, link_meanings}
 use Rattle.question_clauses.proofs.Drafts.{flat_length}
 use Rattle.log_encode.specs.AlarmVariables.{alarm_variable_count, false_width}
-use Rattle.log_encode.specs.CodedLog.{nameless}
 use Rattle.log_encode.specs.declared.taken.ChainEnd.{ChainEnd}
 use Rattle.log_encode.specs.declared.taken.Taken.{Taken}
 use Rattle.log_encode.specs.Written.{taken_from}
@@ -60,12 +59,12 @@ taken_is_filter net labels (end ∷ ends) = by (has_any_label net labels end.eve
     by true e later = rw e (ap (λ rest. end.event ∷ rest) later)
     by false e later = rw e later
 
-pub taken_are_events : (net : Net) (log : Log) (labels : List (List ℕ)) (maybe : Bool) (ends : List ChainEnd) → map (λ (end : ChainEnd). end.event) ends ≡ observable_events net →
-    map (λ (taken : Taken). taken.event) (taken_from net labels ends) ≡ taken_events net log (nameless labels maybe)
-taken_are_events net log labels maybe ends is =
-    taken_is_filter net labels ends ∙ ap (filter (has_any_label net labels)) is
-    ∙ filter_within (has_any_label net labels) (λ e. is_some (label_of net e)) (numbers_below (length net.events)) (labelled_is_seen net labels)
-    ∙ sym (filter_alike (λ e. is_matching net (with_addition log (alarm_added (nameless labels maybe))) e (length log.alarms)) (has_any_label net labels) (numbers_below (length net.events)) (suits_new net log (nameless labels maybe)))
+pub taken_are_events : (net : Net) (log : Log) (new : Alarm) (ends : List ChainEnd) → map (λ (end : ChainEnd). end.event) ends ≡ observable_events net →
+    map (λ (taken : Taken). taken.event) (taken_from net new.labels ends) ≡ taken_events net log new
+taken_are_events net log new ends is =
+    taken_is_filter net new.labels ends ∙ ap (filter (has_any_label net new.labels)) is
+    ∙ filter_within (has_any_label net new.labels) (λ e. is_some (label_of net e)) (numbers_below (length net.events)) (labelled_is_seen net new.labels)
+    ∙ sym (filter_alike (λ e. is_matching net (with_addition log (alarm_added new)) e (length log.alarms)) (has_any_label net new.labels) (numbers_below (length net.events)) (suits_new net log new))
 
 pub map_count : {X Y : Type 0} (f : X → Y) (xs : List X) → length (map f xs) ≡ length xs
 map_count f [] = refl
@@ -91,18 +90,17 @@ events_again [] = refl
 events_again (e ∷ events) = ap (λ rest. e ∷ rest) (events_again events)
 
 -- how many variables a new alarm takes
-pub width_is : (net : Net) (log : Log) (n : ℕ) (labels : List (List ℕ)) (maybe : Bool) (takes : List Taken) → map (λ (taken : Taken). taken.event) takes ≡ taken_events net log (nameless labels maybe) →
-    length (added_meanings net log n (alarm_added (nameless labels maybe))) ≡ alarm_variable_count (length takes) n + false_width maybe
-width_is net log n labels maybe takes is =
-    let new = nameless labels maybe in
+pub width_is : (net : Net) (log : Log) (n : ℕ) (new : Alarm) (takes : List Taken) → map (λ (taken : Taken). taken.event) takes ≡ taken_events net log new →
+    length (added_meanings net log n (alarm_added new)) ≡ alarm_variable_count (length takes) n + false_width new.doubtful
+width_is net log n new takes is =
     let links = flat_length (λ e. link_meanings n (length log.alarms) e (length (chain net log e))) (taken_events net log new) (1 + n * 2) (λ e. link_size n (length log.alarms) e (length (chain net log e))) in
     let count : length (taken_events net log new) ≡ length takes = ap length (sym is) ∙ map_count (λ (taken : Taken). taken.event) takes in
     let dones : length (map (λ t. done (length log.alarms) t) (numbers_below (suc n))) ≡ suc n = map_count (λ t. done (length log.alarms) t) (numbers_below (suc n)) ∙ numbers_count (suc n) in
-    let whole = length-append (alarm_meanings net log n new) (match_chains n (length log.alarms) (length (taken_events net log new)) ++ false_meanings maybe (length log.alarms)) in
-    let both = length-append (match_chains n (length log.alarms) (length (taken_events net log new))) (false_meanings maybe (length log.alarms)) in
+    let whole = length-append (alarm_meanings net log n new) (match_chains n (length log.alarms) (length (taken_events net log new)) ++ false_meanings new.doubtful (length log.alarms)) in
+    let both = length-append (match_chains n (length log.alarms) (length (taken_events net log new))) (false_meanings new.doubtful (length log.alarms)) in
     let two = length-append (flat_map (λ e. link_meanings n (length log.alarms) e (length (chain net log e))) (taken_events net log new)) (map (λ t. done (length log.alarms) t) (numbers_below (suc n))) in
     let chains = flat_length (λ t. chain_meanings (of_matches (length log.alarms) (suc t)) (length (taken_events net log new))) (numbers_below n) (chain_count (length (taken_events net log new)))
     (λ t. map_count (λ k. some_of_first (of_matches (length log.alarms) (suc t)) (suc k)) (numbers_below (chain_count (length (taken_events net log new)))) ∙ numbers_count (chain_count (length (taken_events net log new)))) in
     let row = ap (λ k. k * chain_count (length (taken_events net log new))) (numbers_count n) ∙ ap (λ m. n * chain_count m) count in
     let front = ap (λ k. k * (1 + n * 2)) count in
-    omega (arith, whole, both, two, links, dones, chains, row, front, false_count maybe (length log.alarms))
+    omega (arith, whole, both, two, links, dones, chains, row, front, false_count new.doubtful (length log.alarms))

@@ -5,17 +5,17 @@ use Rattle.log_encode.specs.declared.alarm_vars.AlarmVars.{AlarmVars}
 use Rattle.log_encode.specs.declared.taken.Taken.{Taken}
 use Rattle.log_encode.specs.AlarmVariables.{match_variable}
 use Rattle.log_encode.specs.Written.{link_of}
+use Rattle.log_order.specs.Log.{Alarm}
 
--- its labels, whether it is doubtful, the events that it may stand for, each with the former end of its chain, and its first variable
+-- the alarm as the log has it, the events that it may stand for, each with the former end of its chain, and its first variable
 pub record AlarmState : Type 0 where
-  pub labels : List (List ℕ)
-  pub doubtful : Bool
+  pub noted : Alarm
   pub takes : List Taken
   pub start : ℕ
 
 -- where its variables stand, for `steps` steps
 abbrev pub variables_of : ℕ → AlarmState → AlarmVars
-variables_of steps alarm = record { start = alarm.start; links = length alarm.takes; steps = steps; doubtful = alarm.doubtful }
+variables_of steps alarm = record { start = alarm.start; links = length alarm.takes; steps = steps; doubtful = alarm.noted.doubtful }
 
 -- it stands for the event in the step after t steps, by the truth of its variables
 abbrev pub is_matched : ℕ → AlarmState → (ℕ → Bool) → ℕ → ℕ → Bool

@@ -1,9 +1,9 @@
 -- The code of an alarm log: which variables stand for the meanings of the log.
-use Rattle.std.specs.Prelude.{Bool, ℕ, ◌+◌, ◌*◌, ◌≡◌, ◌≤◌, List, [], ◌∷◌, ◌++◌, map, length}
+use Rattle.std.specs.Prelude.{ℕ, ◌+◌, ◌*◌, ◌≡◌, ◌≤◌, List, [], ◌∷◌, ◌++◌, map, length}
 use Rattle.std.specs.List.{AllByRecursion}
 use Rattle.des_base.specs.declared.TheConstants.{VAR_LIMIT}
 use Rattle.des_net.specs.Network.{Net}
-use Rattle.log_order.specs.Log.{Log, Alarm, no_log, a_log, an_alarm}
+use Rattle.log_order.specs.Log.{Log, Alarm, no_log}
 use Rattle.question_clauses.specs.Additions.{Addition, alarm_added, pair_added, with_addition}
 use Rattle.question_clauses.specs.BesideEvents.{with_events}
 use Rattle.question_clauses.specs.LogClauses.{doubtful_alarms, guard_literals}
@@ -14,7 +14,7 @@ use Rattle.prop_core.specs.declared.lit.Lit.{Lit}
 use Rattle.prop_core.specs.VariableNames.{Meaning, NamedLiteral, yes, dropped}
 use Rattle.question_clauses.specs.LaidOut.{laid_out}
 
--- The network, the variables of its events, and the log, whose alarms have no names here; the variable that asks for the log, which is its first, the first variable of each alarm, and a number above all its variables.
+-- The network, the variables of its events, and the log; the variable that asks for the log, which is its first, the first variable of each alarm, and a number above all its variables.
 pub record CodedLog : Type 0 where
   pub net : Net
   pub grid : Grid
@@ -22,14 +22,6 @@ pub record CodedLog : Type 0 where
   pub asked : ℕ
   pub starts : List ℕ
   pub vars : ℕ
-
--- an alarm with these labels, certain or doubtful, and without a name
-abbrev pub nameless : List (List ℕ) → Bool → Alarm
-nameless labels doubtful = an_alarm [] labels doubtful
-
--- the log, its alarms without their names
-abbrev pub without_names : Log → Log
-without_names log = a_log (map (λ (alarm : Alarm). nameless alarm.labels alarm.doubtful) log.alarms) log.pairs
 
 -- ---- its variables
 

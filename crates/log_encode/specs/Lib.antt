@@ -7,3 +7,5 @@ pub mod View
 pub mod WrittenLog
 pub mod BuiltLog
 pub mod LogEnds
+pub mod NotedId
+pub mod Nameless

@@ -13,7 +13,7 @@ use Rattle.log_encode.specs.declared.taken.ChainEnd.{ChainEnd}
 use Rattle.log_encode.specs.declared.taken.Taken.{Taken}
 use Rattle.log_encode.specs.AlarmState.{AlarmState, variables_of}
 use Rattle.log_encode.specs.AlarmVariables.{match_variable, passed_variable, done_variable, dropped_variable, alarm_width}
-use Rattle.log_encode.specs.CodedLog.{CodedLog, nameless, log_meanings, false_literals, IsCodedLog, code_after, addition_width}
+use Rattle.log_encode.specs.CodedLog.{CodedLog, log_meanings, false_literals, IsCodedLog, code_after, addition_width}
 use Rattle.log_encode.specs.Drafted.{LogCodeState, DraftState}
 use Rattle.log_encode.specs.Written.{guards_of}
 use Rattle.question_clauses.specs.LogNames.{ReadsInOrder}
@@ -24,12 +24,12 @@ use Rattle.prop_core.specs.VariableNames.{meaning_of, matches, done, dropped, cl
 
 -- ---- the code
 
--- the code with these parts, where each alarm has its labels, whether it is doubtful, and its first variable
+-- the code with these parts, where each alarm is noted, with its first variable
 abbrev pub coded_of : Net → Grid → ℕ → ℕ → List AlarmState → List (ℕ × ℕ) → CodedLog
 coded_of net grid asked vars alarms pairs = record {
   net = net;
   grid = grid;
-  log = record { alarms = map (λ (alarm : AlarmState). nameless alarm.labels alarm.doubtful) alarms; pairs = pairs };
+  log = record { alarms = map (λ (alarm : AlarmState). alarm.noted) alarms; pairs = pairs };
   asked = asked;
   starts = map (λ (alarm : AlarmState). alarm.start) alarms;
   vars = vars;
@@ -69,8 +69,8 @@ pub record IsCodedAlarm (code : CodedLog) (i : ℕ) (alarm : AlarmState) : Type 
   pub passing : (p e t : ℕ) → slice_get (matching_events code.net code.log i) p ≡ Some e → t < code.grid.steps →
       (k : ℕ) × IsLink code.net code.log i e k × (meaning_of (log_meanings code) (passed_variable (variables_of code.grid.steps alarm) p t) ≡ Some (remaining e (suc k) (suc t)))
   pub being_done : (t : ℕ) → t ≤ code.grid.steps → meaning_of (log_meanings code) (done_variable (variables_of code.grid.steps alarm) t) ≡ Some (done i t)
-  pub mark : is_doubtful code.log i ≡ alarm.doubtful
-  pub being_false : alarm.doubtful ≡ true → meaning_of (log_meanings code) (dropped_variable (variables_of code.grid.steps alarm)) ≡ Some (dropped i)
+  pub mark : is_doubtful code.log i ≡ alarm.noted.doubtful
+  pub being_false : alarm.noted.doubtful ≡ true → meaning_of (log_meanings code) (dropped_variable (variables_of code.grid.steps alarm)) ≡ Some (dropped i)
 
 -- these say of the doubtful alarms, one after another, that they are false
 abbrev pub AreFalse : CodedLog → List Lit → Type 0
@@ -91,9 +91,9 @@ pub record KeepsLogCode (a : Inside) : Type 0 where
 
 -- ---- a draft
 
--- what a draft adds to the log: an alarm without a name, or a pair
+-- what a draft adds to the log: an alarm or a pair
 abbrev pub addition_of : Change → Addition
-addition_of (Alarm alarm ends guards lits) = alarm_added (nameless alarm.labels alarm.doubtful)
+addition_of (Alarm alarm ends guards lits) = alarm_added alarm.noted
 addition_of (Pair first second) = pair_added first second
 
 -- the code that it was made by, its addition, its variables and its clauses: what will be kept beside the code is not seen
@@ -104,9 +104,9 @@ draft_view a = record { code = a.code.value.coded; addition = addition_of a.chan
 abbrev pub IsReadyChange : CodedLog → ℕ → Change → Type 0
 IsReadyChange code first (Alarm alarm ends guards lits) =
     (alarm.start ≡ first)
-    × IsCodedAlarm (code_after code (alarm_added (nameless alarm.labels alarm.doubtful)) first) (length code.log.alarms) alarm
-    × AreEnds (code_after code (alarm_added (nameless alarm.labels alarm.doubtful)) first) ends.items guards.items
-    × AreFalse (code_after code (alarm_added (nameless alarm.labels alarm.doubtful)) first) lits.items
+    × IsCodedAlarm (code_after code (alarm_added alarm.noted) first) (length code.log.alarms) alarm
+    × AreEnds (code_after code (alarm_added alarm.noted) first) ends.items guards.items
+    × AreFalse (code_after code (alarm_added alarm.noted) first) lits.items
 IsReadyChange code first (Pair i j) = ⊤
 
 -- what the fields keep: the change fits the code, and the variables come after those of the code, as many as the addition takes, within the limit

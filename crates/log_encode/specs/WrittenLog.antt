@@ -1,22 +1,21 @@
 -- The clauses that were written for a log, from the first on, and what they are good for.
-use Rattle.std.specs.Prelude.{◌≡◌, ◌↔◌, ℕ, ◌+◌, ◌*◌, ◌≤◌, List, ◌++◌, length}
+use Rattle.std.specs.Prelude.{◌≡◌, ℕ, ◌+◌, ◌*◌, ◌≤◌, List, ◌++◌, length}
 use Rattle.des_base.specs.declared.TheConstants.{VAR_LIMIT}
 use Rattle.des_net.specs.Network.{Net}
 use Rattle.des_net.specs.QuestionSize.{observable_count}
-use Rattle.log_order.specs.Log.{Log, no_log}
+use Rattle.log_order.specs.Log.{no_log}
 use Rattle.question_clauses.specs.Additions.{Addition}
 use Rattle.question_clauses.specs.Drafts.{first_list}
 use Rattle.question_clauses.specs.LogClauses.{guard_literals}
 use Rattle.question_clauses.specs.LogCodeLaws.{IsExactLogCode}
 use Rattle.question_clauses.specs.LogCodes.{IsNamedLog}
-use Rattle.log_encode.specs.CodedLog.{CodedLog, read_meanings, code_after, without_names, IsCodedLog}
+use Rattle.log_encode.specs.CodedLog.{CodedLog, read_meanings, code_after, IsCodedLog}
 use Rattle.log_encode.specs.Drafted.{DraftState, IsDraftOf}
 use Rattle.prop_core.specs.declared.lit.Lit.{Lit}
 use Rattle.prop_core.specs.Clauses.{Clause}
 use Rattle.prop_core.specs.Listings.{IsListed}
 use Rattle.prop_core.specs.NamedClauses.{IsCode}
 use Rattle.prop_core.specs.VariableNames.{Meaning, ReadsAs}
-use Rattle.replay.specs.Explanation.{Entry, Explains}
 
 -- Further clauses are those of the empty log, by these meanings, one after another in the order of their listing: for each event that can be seen one in each step.
 pub record AppendsFirst (net : Net) (n : ℕ) (meanings : List (ℕ × Meaning)) (old new : List Clause) : Type 0 where
@@ -45,7 +44,3 @@ WrittenGrows = (code : CodedLog) (addition : Addition) (draft : DraftState) (wri
 abbrev pub WrittenIsExact : Type 0
 WrittenIsExact = (code : CodedLog) (written : List Clause) (guards : List Lit) → IsWritten code written → ReadsAs (read_meanings code) guards (guard_literals code.net code.log) →
     IsExactLogCode code.net code.log code.grid.steps (read_meanings code) written guards
-
--- The names of alarms don't matter for what explains a log.
-abbrev pub NamesDontMatter : Type 0
-NamesDontMatter = (net : Net) (log : Log) (n : ℕ) (word : List ℕ) (order : List Entry) → Explains net log n word order ↔ Explains net (without_names log) n word order

@@ -8,10 +8,11 @@ use std::alloc::Global;
 use std::marker::Model;
 use std::snapshot::Snapshot;
 
-// An alarm of the log: its labels, whether it is doubtful, the events that it may stand for, and its first variable. No code
-// reads the labels: they are noted for contracts, by values without bytes.
+// An alarm of the log: its id, if it has one here, its labels, whether it is doubtful, the events that it may stand for, and its
+// first variable. No code reads id and labels: they are noted for contracts, by values without bytes.
 #[derive(Drop)]
 pub struct AlarmCode {
+    pub id: Option<Snapshot<Name>>,
     pub labels: Vec<Snapshot<Name>>,
     pub doubtful: bool,
     pub takes: Vec<Taken>,
@@ -21,10 +22,12 @@ pub struct AlarmCode {
 impl Model for AlarmCode {
     ghost use Rattle.std.specs.Prelude.{map};
     ghost use Rattle.log_encode.specs.AlarmState.{AlarmState};
+    ghost use Rattle.log_encode.specs.NotedId.{noted_id};
+    ghost use Rattle.log_order.specs.Log.{an_alarm};
 
     ghost Value = { AlarmState };
 
-    ghost view = { λ a. record { labels = map (λ noted. noted.value) a.labels.items; doubtful = a.doubtful; takes = a.takes.items; start = a.start } };
+    ghost view = { λ a. record { noted = an_alarm (noted_id a.id) (map (λ noted. noted.value) a.labels.items) a.doubtful; takes = a.takes.items; start = a.start } };
 }
 
 impl AlarmCode {

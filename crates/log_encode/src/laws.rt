@@ -1,5 +1,6 @@
 // The laws of what was written for a log.
-ghost use Rattle.log_encode.specs.WrittenLog.{NamesDontMatter, WrittenGrows, WrittenIsExact};
+ghost use Rattle.log_encode.specs.Nameless.{NamesDontMatter};
+ghost use Rattle.log_encode.specs.WrittenLog.{WrittenGrows, WrittenIsExact};
 ghost use Rattle.log_encode.specs.BuiltLog.{DraftIsBuilt, FirstIsBuilt};
 
 /// A law: with the clauses of a draft that is committed, what was written is the code of the longer log.
@@ -12,7 +13,8 @@ pub fn written_is_exact()
     ensures { WrittenIsExact }
 {}
 
-/// A law: what explains a log doesn't depend on the names of its alarms.
+/// A law: what explains a log doesn't depend on the names of its alarms. So what is said of a code whose alarms were drafted
+/// without them is true of each log that they are of.
 pub fn names_dont_matter()
     ensures { NamesDontMatter }
 {}

@@ -9,9 +9,11 @@ ghost use Rattle.prop_core.specs.NamedClauses.{value_by};
 ghost use Rattle.prop_core.specs.VariableNames.{ReadsAs, meaning_of, named_clause, done};
 ghost use Rattle.log_encode.specs.AlarmState.{variables_of, is_matched};
 ghost use Rattle.log_encode.specs.AlarmVariables.{AreWithinLimit, alarm_width, done_variable, dropped_variable};
-ghost use Rattle.log_encode.specs.CodedLog.{IsCodedLog, empty_code, code_after, log_meanings, false_literals, log_guards, read_meanings, nameless, addition_width};
+ghost use Rattle.log_encode.specs.CodedLog.{IsCodedLog, empty_code, code_after, log_meanings, false_literals, log_guards, read_meanings, addition_width};
 ghost use Rattle.log_encode.specs.Drafted.{IsDraftOf, IsStepOfAlarm, IsUnpassed, HasRoomFor};
+ghost use Rattle.log_encode.specs.LogEnds.{IsLogEnd};
 ghost use Rattle.log_encode.specs.WrittenLog.{AppendsFirst};
+ghost use Rattle.log_order.specs.Log.{an_alarm};
 
 use crate::alarm_code::AlarmCode;
 use crate::alarm_vars::AlarmVars;
@@ -119,7 +121,7 @@ impl LogCode {
         })
     }
 
-    /// Drafts an alarm with these labels, in the network that the code was made for: with `maybe`, a doubtful one.
+    /// Drafts an alarm with these labels, in the network that the code was made for: with `maybe`, a doubtful one. It has no id here.
     ///
     /// Its variables begin at `first_var`: make them by one `fresh` before the draft is committed.
     pub fn draft_alarm(
@@ -131,18 +133,49 @@ impl LogCode {
     ) -> Result<Draft, Memory>
         requires net { net.now ≡ self.now.coded.net }
         requires made { self.now.coded.vars ≤ first_var }
-        requires few { first_var + addition_width self.now.coded (alarm_added (nameless labels.now maybe)) ≤ VAR_LIMIT }
-        ensures { IfOk result (IsDraftOf self.now.coded (alarm_added (nameless labels.now maybe)) first_var) }
+        requires few { first_var + addition_width self.now.coded (alarm_added (an_alarm [] labels.now maybe)) ≤ VAR_LIMIT }
+        ensures { IfOk result (IsDraftOf self.now.coded (alarm_added (an_alarm [] labels.now maybe)) first_var) }
     {
-        let end = LogEnd {
+        draft_at(self, self.end(net), None, labels, maybe, first_var)
+    }
+
+    /// Drafts an alarm like `draft_alarm`, one with this id. Its clauses and variables are the same, and the id takes no memory.
+    pub fn draft_named_alarm(
+        &self,
+        net: &Network,
+        id: &Name,
+        labels: &[Name],
+        maybe: bool,
+        first_var: u32,
+    ) -> Result<Draft, Memory>
+        requires net { net.now ≡ self.now.coded.net }
+        requires made { self.now.coded.vars ≤ first_var }
+        requires few { first_var + addition_width self.now.coded (alarm_added (an_alarm id.now labels.now maybe)) ≤ VAR_LIMIT }
+        ensures { IfOk result (IsDraftOf self.now.coded (alarm_added (an_alarm id.now labels.now maybe)) first_var) }
+    {
+        draft_at(
+            self,
+            self.end(net),
+            Some(Snapshot::of(id)),
+            labels,
+            maybe,
+            first_var,
+        )
+    }
+
+    // Where an alarm is added to the code.
+    fn end<'a>(&'a self, net: &'a Network) -> LogEnd<'a>
+        requires { net.now ≡ self.now.coded.net }
+        ensures { IsLogEnd self.now.coded result }
+    {
+        LogEnd {
             alloc: self.alloc,
             net,
             grid: self.grid,
             asked: self.asked,
             ends: self.ends.as_slice(),
             dropped: self.dropped.as_slice(),
-        };
-        draft_at(self, end, labels, maybe, first_var)
+        }
     }
 
     /// Drafts a pair of alarms, "the first before the second". It takes no variables, and may stand between alarms of one step.
@@ -334,7 +367,7 @@ impl LogCode {
     fn is_dropped(&self, alarm: &AlarmCode, assign: &Assignment) -> bool
         requires within { AreWithinLimit (variables_of self.now.coded.grid.steps alarm.now) }
         requires values { alarm.now.start + alarm_width (variables_of self.now.coded.grid.steps alarm.now) ≤ length assign.now }
-        ensures { result ≡ (alarm.now.doubtful && value_in assign.now (dropped_variable (variables_of self.now.coded.grid.steps alarm.now))) }
+        ensures { result ≡ (alarm.now.noted.doubtful && value_in assign.now (dropped_variable (variables_of self.now.coded.grid.steps alarm.now))) }
     {
         alarm.doubtful && assign.value(self.vars_of(alarm).dropped())
     }

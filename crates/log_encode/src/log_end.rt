@@ -2,9 +2,10 @@
 ghost use Rattle.std.specs.Prelude.{◌≡◌, ◌<◌, length, All, IfOk};
 ghost use Rattle.question_clauses.specs.Additions.{alarm_added};
 ghost use Rattle.log_encode.specs.AlarmVariables.{AreWithinLimit};
-ghost use Rattle.log_encode.specs.CodedLog.{nameless};
 ghost use Rattle.log_encode.specs.Drafted.{IsDraftOf};
 ghost use Rattle.log_encode.specs.LogEnds.{CanDraft, BringsAlarm};
+ghost use Rattle.log_encode.specs.NotedId.{noted_id};
+ghost use Rattle.log_order.specs.Log.{an_alarm};
 
 use crate::alarm_code::{AlarmCode, noted_labels};
 use crate::alarm_vars::AlarmVars;
@@ -31,16 +32,17 @@ pub struct LogEnd<'a> {
     pub dropped: &'a [Lit],
 }
 
-// Drafts an alarm with these labels at the end of the code.
+// Drafts an alarm with this id, if there is one, and these labels at the end of the code.
 pub fn draft_at(
     code: &LogCode,
     end: LogEnd<'_>,
+    id: Option<Snapshot<Name>>,
     labels: &[Name],
     maybe: bool,
     first_var: u32,
 ) -> Result<Draft, Memory>
-    requires { CanDraft code.now.coded end labels.now maybe first_var }
-    ensures { IfOk result (IsDraftOf code.now.coded (alarm_added (nameless labels.now maybe)) first_var) }
+    requires { CanDraft code.now.coded end (an_alarm (noted_id id) labels.now maybe) first_var }
+    ensures { IfOk result (IsDraftOf code.now.coded (alarm_added (an_alarm (noted_id id) labels.now maybe)) first_var) }
 {
     let takes = taken_by(end.alloc, end.net, end.ends, labels)?;
     let vars = AlarmVars::new(first_var, takes.len(), end.grid.steps, maybe);
@@ -53,7 +55,7 @@ pub fn draft_at(
         takes.as_slice(),
         &mut clauses,
     )?;
-    let change = alarm_change(end, labels, takes, vars)?;
+    let change = alarm_change(end, id, labels, takes, vars)?;
     Ok(Draft {
         code: Snapshot::of(code),
         change,
@@ -63,9 +65,11 @@ pub fn draft_at(
     })
 }
 
-// What an alarm with these labels and variables brings that may stand for these events, with what then stands beside the code.
+// What an alarm with this id, these labels and these variables brings that may stand for these events, with what then stands
+// beside the code.
 fn alarm_change(
     end: LogEnd<'_>,
+    id: Option<Snapshot<Name>>,
     labels: &[Name],
     takes: Vec<Taken>,
     vars: AlarmVars,
@@ -74,7 +78,7 @@ fn alarm_change(
     requires links { vars.links ≡ length takes.items }
     requires asked { end.asked < VAR_LIMIT }
     requires closed { All (λ known. known.closed < VAR_LIMIT) end.ends.now }
-    ensures { IfOk result (BringsAlarm end.entry labels.now takes.items vars) }
+    ensures { IfOk result (BringsAlarm end.entry (noted_id id) labels.now takes.items vars) }
 {
     let ends = ends_after(end.alloc, end.ends, vars, takes.as_slice())?;
     let guards = guards_of(end.alloc, end.asked, ends.as_slice())?;
@@ -82,6 +86,7 @@ fn alarm_change(
     let labels = noted_labels(end.alloc, labels)?;
     Ok(Change::Alarm {
         alarm: AlarmCode {
+            id,
             labels,
             doubtful: vars.doubtful,
             takes,

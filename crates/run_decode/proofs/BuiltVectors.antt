@@ -3,31 +3,31 @@ use Rattle.std.proofs.Common.{◌≡◌, true, false, [], ◌∷◌, length, dro
 use Rattle.std.specs.Prelude.{codes}
 use Rattle.des_net.specs.Models.{pump}
 use Rattle.question_clauses.specs.Additions.{Addition, alarm_added, pair_added}
-use Rattle.log_encode.specs.CodedLog.{addition_width, nameless}
-use Rattle.log_order.specs.Log.{a_log, no_log}
+use Rattle.log_encode.specs.CodedLog.{addition_width}
+use Rattle.log_order.specs.Log.{a_log, an_alarm, no_log}
 use Rattle.run_decode.specs.QuestionAxioms.{BuiltQuestion, added_axioms, added_built, column_built, question_built}
 
 -- an alarm, certain or perhaps false
 abbrev certain : Addition
-certain = alarm_added (nameless (codes "T" ∷ []) false)
+certain = alarm_added (an_alarm (codes "a") (codes "T" ∷ []) false)
 
 abbrev doubtful : Addition
-doubtful = alarm_added (nameless (codes "T" ∷ []) true)
+doubtful = alarm_added (an_alarm (codes "a") (codes "T" ∷ []) true)
 
 abbrev begun : BuiltQuestion
 begun = question_built pump no_log 1 0
 
 -- ---- before the counter has a column, the question with an addition is that of the longer log
 
-pub certain-is : added_built begun certain ≡ question_built pump (a_log (nameless (codes "T" ∷ []) false ∷ []) []) 1 0
+pub certain-is : added_built begun certain ≡ question_built pump (a_log (an_alarm (codes "a") (codes "T" ∷ []) false ∷ []) []) 1 0
 certain-is = refl
 
-pub doubtful-is : added_built begun doubtful ≡ question_built pump (a_log (nameless (codes "T" ∷ []) true ∷ []) []) 1 0
+pub doubtful-is : added_built begun doubtful ≡ question_built pump (a_log (an_alarm (codes "a") (codes "T" ∷ []) true ∷ []) []) 1 0
 doubtful-is = refl
 
 pub pair-is :
     added_built (added_built (added_built begun certain) certain) (pair_added 0 1)
-    ≡ question_built pump (a_log (nameless (codes "T" ∷ []) false ∷ nameless (codes "T" ∷ []) false ∷ []) ((0, 1) ∷ [])) 1 0
+    ≡ question_built pump (a_log (an_alarm (codes "a") (codes "T" ∷ []) false ∷ an_alarm (codes "a") (codes "T" ∷ []) false ∷ []) ((0, 1) ∷ [])) 1 0
 pair-is = refl
 
 -- ---- behind a column, a doubtful alarm is counted there too

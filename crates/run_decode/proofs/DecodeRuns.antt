@@ -13,7 +13,6 @@ use Rattle.question_clauses.specs.LogTruth.{LogClausesHold, GuardsHold}
 use Rattle.question_clauses.proofs.Lists.{all_at, from_numbers, in_numbers}
 use Rattle.question_clauses.proofs.LogSound.{log_is_sound, real_at}
 use Rattle.log_encode.proofs.TakenLemmas.{map_count}
-use Rattle.log_encode.specs.CodedLog.{without_names}
 use Rattle.prop_core.specs.VariableNames.{Meaning, happens, done}
 use Rattle.replay.specs.declared.run.RunStep.{RunStep}
 use Rattle.replay.specs.Traced.{word_of, event_of}
@@ -75,18 +74,17 @@ plain_is net value t = by (numbers_below (length net.events))
 abbrev piece : Net → Log → (Meaning → Bool) → List ℕ → ℕ → List ℕ
 piece net log value order t = unobservables net (events_at net value (suc t)) ++ shown_at net log value order t
 
-pub step_word : (net : Net) (log : Log) (n : ℕ) (value : Meaning → Bool) (order : List ℕ) (t : ℕ) → AreSettled net (without_names log) n value → AllByRecursion (λ i. i < length (without_names log).alarms) order → t < n →
-    word_of (decoded_step net log value order t) ≡ piece net (without_names log) value order t
+pub step_word : (net : Net) (log : Log) (n : ℕ) (value : Meaning → Bool) (order : List ℕ) (t : ℕ) → AreSettled net log n value → AllByRecursion (λ i. i < length log.alarms) order → t < n →
+    word_of (decoded_step net log value order t) ≡ piece net log value order t
 step_word net log n value order t settled known time =
-    let bare = without_names log in
-    let shown = shown_steps log (alarm_event net bare value t) (falls bare value (suc t)) order in
+    let shown = shown_steps log (alarm_event net log value t) (falls log value (suc t)) order in
     word_append (map plain_step (plain_events net value t)) shown
     ∙ ap (λ xs. xs ++ word_of shown) (plain_word (plain_events net value t) ∙ plain_is net value t)
-    ∙ ap (λ xs. unobservables net (events_at net value (suc t)) ++ xs) (shown_word log (alarm_event net bare value t) (falls bare value (suc t)) order (λ i in' fallen.
-    none_of (comes value i (suc t)) (is_false_alarm bare value i) (alarm_event net bare value t i) (settled.at t i time (all_at (λ j. j < length bare.alarms) order known i in')) fallen))
+    ∙ ap (λ xs. unobservables net (events_at net value (suc t)) ++ xs) (shown_word log (alarm_event net log value t) (falls log value (suc t)) order (λ i in' fallen.
+    none_of (comes value i (suc t)) (is_false_alarm log value i) (alarm_event net log value t i) (settled.at t i time (all_at (λ j. j < length log.alarms) order known i in')) fallen))
 
 first_word : (log : Log) (value : Meaning → Bool) (order : List ℕ) → word_of (first_steps log value order) ≡ []
-first_word log value order = shown_word log no_alarm_event (falls (without_names log) value 0) order (λ i in' h. refl) ∙ none order
+first_word log value order = shown_word log no_alarm_event (falls log value 0) order (λ i in' h. refl) ∙ none order
   where
     none : (xs : List ℕ) → filter_map no_alarm_event xs ≡ []
     none [] = refl
@@ -104,22 +102,22 @@ joined_map : (f : ℕ → List ℕ) (xs : List ℕ) → joined (map f xs) ≡ fl
 joined_map f [] = refl
 joined_map f (x ∷ xs) = ap (λ rest. f x ++ rest) (joined_map f xs)
 
-run_word_from : (net : Net) (log : Log) (n : ℕ) (value : Meaning → Bool) (order xs : List ℕ) → AreSettled net (without_names log) n value → AllByRecursion (λ i. i < length (without_names log).alarms) order → AllByRecursion (λ t. t < n) xs →
-    word_of (flat_map (decoded_step net log value order) xs) ≡ flat_map (piece net (without_names log) value order) xs
+run_word_from : (net : Net) (log : Log) (n : ℕ) (value : Meaning → Bool) (order xs : List ℕ) → AreSettled net log n value → AllByRecursion (λ i. i < length log.alarms) order → AllByRecursion (λ t. t < n) xs →
+    word_of (flat_map (decoded_step net log value order) xs) ≡ flat_map (piece net log value order) xs
 run_word_from net log n value order [] settled known times = refl
 run_word_from net log n value order (t ∷ xs) settled known times =
     word_append (decoded_step net log value order t) (flat_map (decoded_step net log value order) xs)
-    ∙ ap (λ ys. ys ++ word_of (flat_map (decoded_step net log value order) xs)) (step_word net log n value order t settled known times.0) ∙ ap (λ ys. piece net (without_names log) value order t ++ ys) (run_word_from net log n value order xs settled known times.1)
+    ∙ ap (λ ys. ys ++ word_of (flat_map (decoded_step net log value order) xs)) (step_word net log n value order t settled known times.0) ∙ ap (λ ys. piece net log value order t ++ ys) (run_word_from net log n value order xs settled known times.1)
 
 pub below_all : (n : ℕ) → AllByRecursion (λ t. t < n) (numbers_below n)
 below_all n = all_from (λ t. t < n) (numbers_below n) (λ t in'. from_numbers n t in')
 
 -- the word of the run is that of the arranged pieces
-pub run_word : (net : Net) (log : Log) (value : Meaning → Bool) (order : List ℕ) (n : ℕ) → AreSettled net (without_names log) n value → AllByRecursion (λ i. i < length (without_names log).alarms) order →
-    word_of (decoded_run net log value order n) ≡ joined (decoded net (without_names log) value order n)
+pub run_word : (net : Net) (log : Log) (value : Meaning → Bool) (order : List ℕ) (n : ℕ) → AreSettled net log n value → AllByRecursion (λ i. i < length log.alarms) order →
+    word_of (decoded_run net log value order n) ≡ joined (decoded net log value order n)
 run_word net log value order n settled known =
     word_append (first_steps log value order) (flat_map (decoded_step net log value order) (numbers_below n)) ∙ ap (λ xs. xs ++ word_of (flat_map (decoded_step net log value order) (numbers_below n))) (first_word log value order)
-    ∙ run_word_from net log n value order (numbers_below n) settled known (below_all n) ∙ sym (joined_map (piece net (without_names log) value order) (numbers_below n)) ∙ ap joined (sym (pieces_from net (without_names log) value order 0 n))
+    ∙ run_word_from net log n value order (numbers_below n) settled known (below_all n) ∙ sym (joined_map (piece net log value order) (numbers_below n)) ∙ ap joined (sym (pieces_from net log value order 0 n))
 
 -- ---- its length
 
@@ -143,22 +141,21 @@ shown_short log event dropped (i ∷ order) = by (alarm_step log event dropped i
     by (Some s) e h = rw e (omega (arith, h))
 
 -- a step has no more events that can't be seen than the network has components, and the alarms
-pub step_small : (net : Net) (log : Log) (n t : ℕ) (value : Meaning → Bool) (order : List ℕ) → IsNetwork net → IsValidLog (without_names log) → StepClausesHold net n value → LogClausesHold net (without_names log) n value → GuardsHold net (without_names log) value →
-    ListsOnce (length (without_names log).alarms) order → Keeps order log.pairs → t < n → length (decoded_step net log value order t) ≤ length net.components + length order
+pub step_small : (net : Net) (log : Log) (n t : ℕ) (value : Meaning → Bool) (order : List ℕ) → IsNetwork net → IsValidLog log → StepClausesHold net n value → LogClausesHold net log n value → GuardsHold net log value →
+    ListsOnce (length log.alarms) order → Keeps order log.pairs → t < n → length (decoded_step net log value order t) ≤ length net.components + length order
 step_small net log n t value order network valid stepped logged guarded listed kept time =
-    let bare = without_names log in
-    let arranged_so = decoded_arranged net bare n value order network valid logged guarded listed kept in
-    let run = steps_are_sound net n value (decoded net bare value order n) network stepped arranged_so.steps in
-    let pieces = pieces_from net bare value order 0 n in
-    let at : slice_index_or (arranged net bare value order 0 (step_sets net n value)) t [] ≡ piece net bare value order t =
-    ap (λ xs. slice_index_or xs t []) pieces ∙ map_at (piece net bare value order) 0 n t time ∙ ap (piece net bare value order) (omega arith) in
-    let order_of_step : IsOrderOf (events_at net value (suc t)) (piece net bare value order t) = subst (IsOrderOf (events_at net value (suc t))) at (arranged_so.steps.each t time) in
-    let apart = all_at (IsPiece net) (map (piece net bare value order) (numbers_below n)) (subst (AllByRecursion (IsPiece net)) pieces run.1.apart) (piece net bare value order t) (map_has (piece net bare value order) (numbers_below n) t (in_numbers n t time)) in
-    let few = piece_small net network (piece net bare value order t) (all_from (λ e. e < length net.events) (piece net bare value order t) (λ q h.
+    let arranged_so = decoded_arranged net log n value order network valid logged guarded listed kept in
+    let run = steps_are_sound net n value (decoded net log value order n) network stepped arranged_so.steps in
+    let pieces = pieces_from net log value order 0 n in
+    let at : slice_index_or (arranged net log value order 0 (step_sets net n value)) t [] ≡ piece net log value order t =
+    ap (λ xs. slice_index_or xs t []) pieces ∙ map_at (piece net log value order) 0 n t time ∙ ap (piece net log value order) (omega arith) in
+    let order_of_step : IsOrderOf (events_at net value (suc t)) (piece net log value order t) = subst (IsOrderOf (events_at net value (suc t))) at (arranged_so.steps.each t time) in
+    let apart = all_at (IsPiece net) (map (piece net log value order) (numbers_below n)) (subst (AllByRecursion (IsPiece net)) pieces run.1.apart) (piece net log value order t) (map_has (piece net log value order) (numbers_below n) t (in_numbers n t time)) in
+    let few = piece_small net network (piece net log value order t) (all_from (λ e. e < length net.events) (piece net log value order t) (λ q h.
     from_numbers (length net.events) q (filter_from (λ e. value (happens e (suc t))) (numbers_below (length net.events)) q ((order_of_step.same q).0 h)).1)) apart in
-    let parts = length-append (unobservables net (events_at net value (suc t))) (shown_at net bare value order t) in
+    let parts = length-append (unobservables net (events_at net value (suc t))) (shown_at net log value order t) in
     let plain = ap length (plain_is net value t) in
-    let shown = shown_short log (alarm_event net bare value t) (falls bare value (suc t)) order in
-    let whole = length-append (map plain_step (plain_events net value t)) (shown_steps log (alarm_event net bare value t) (falls bare value (suc t)) order) in
+    let shown = shown_short log (alarm_event net log value t) (falls log value (suc t)) order in
+    let whole = length-append (map plain_step (plain_events net value t)) (shown_steps log (alarm_event net log value t) (falls log value (suc t)) order) in
     let mapped = map_count plain_step (plain_events net value t) in
     omega (arith, few, parts, plain, shown, whole, mapped)

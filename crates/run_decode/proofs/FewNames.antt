@@ -22,7 +22,6 @@ use Rattle.prop_core.specs.VariableNames.{Meaning, reaches, yes, dropped}
 use Rattle.replay.specs.QuestionSize.{doubtful_count, variable_bound}
 use Rattle.question_clauses.specs.LaidOut.{laid_out, step_meanings}
 use Rattle.question_clauses.specs.StepClauses.{event_groups}
-use Rattle.run_decode.proofs.Nameless.{nameless_bound}
 use Rattle.run_decode.specs.WholeNaming.{AreInputs, TogetherAreFew}
 use Rattle.step_encode.proofs.Codes.{chains_wide, names_end, variables_are_counted, blocks_wide}
 use Rattle.step_encode.proofs.FewChains.{chains_few}
@@ -119,12 +118,12 @@ columns_few k f n d few = let most = mul-le-mul_right (f * n + d) few in let spr
 -- ---- all
 
 pub together_are_few : TogetherAreFew
-together_are_few steps code counter log together nameless few =
+together_are_few steps code counter log together same few =
     let names = steps_few steps.net steps.steps in
     let row = row_length steps.first (step_meanings steps.net steps.steps) in
     let logged = subst (λ net. length (log_meanings code) + step_variables net steps.steps + (counter_size net steps.steps + 256 * doubtful_count code.log) ≤ variable_bound net code.log steps.steps) together.beside.net
     (log_few code steps.steps (ap (λ (grid : Grid). grid.steps) together.beside.grid) together.beside.logged.each) in
-    let bound = ap (λ (l : Log). variable_bound steps.net l steps.steps) nameless ∙ sym (nameless_bound steps.net log steps.steps) in
+    let bound = ap (λ (l : Log). variable_bound steps.net l steps.steps) same in
     let counted = counter_count counter ∙ ap (λ m. length counter.columns * m) (inputs_are_counted steps code counter.inputs together.inputs) in
     let columns = columns_few (length counter.columns) (fault_event_count steps.net) steps.steps (doubtful_count code.log) few in
     let two = length-append (code_meanings steps) (log_meanings code ++ counter_meanings counter) in

@@ -9,7 +9,6 @@ pub mod FurtherNames
 mod Parts
 mod Growth
 mod Reading
-pub mod Nameless
 mod Vectors
 pub mod RunNames
 pub mod WholeNames

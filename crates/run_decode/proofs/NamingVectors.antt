@@ -5,9 +5,9 @@ use Rattle.card_counter.proofs.States.{none_is_made}
 use Rattle.card_counter.specs.CounterState.{CounterState, IsMade, without_columns, with_column, bound_literal}
 use Rattle.des_net.specs.Models.{pump}
 use Rattle.log_encode.proofs.CodeLemmas.{empty_is_coded}
-use Rattle.log_order.specs.Log.{Alarm}
+use Rattle.log_order.specs.Log.{Alarm, an_alarm}
 use Rattle.question_clauses.specs.Additions.{alarm_added}
-use Rattle.log_encode.specs.CodedLog.{nameless, CodedLog, empty_code}
+use Rattle.log_encode.specs.CodedLog.{CodedLog, empty_code}
 use Rattle.prop_core.specs.VariableNames.{in_state, happens, asked, closed, reaches}
 use Rattle.prop_core.specs.declared.lit.Lit.{Lit}
 use Rattle.run_decode.proofs.WholeNames.{together_begins, together_grow}
@@ -59,7 +59,7 @@ no_jam_literal = refl
 
 -- a doubtful alarm that may stand for the trip: five variables of its link, three of when it is done, and one that it is false
 abbrev perhaps : Alarm
-perhaps = nameless ((84 ∷ []) ∷ []) true
+perhaps = an_alarm (97 ∷ []) ((84 ∷ []) ∷ []) true
 
 pub counted_too : counter_after code counter (alarm_added perhaps) 23 ≡ record {
   inputs = inputs ++ record { var = 31; positive = true } ∷ [];
@@ -69,5 +69,5 @@ pub counted_too : counter_after code counter (alarm_added perhaps) 23 ≡ record
 counted_too = refl
 
 -- a certain one changes nothing
-pub not_counted : counter_after code counter (alarm_added (nameless ((84 ∷ []) ∷ []) false)) 23 ≡ counter
+pub not_counted : counter_after code counter (alarm_added (an_alarm (97 ∷ []) ((84 ∷ []) ∷ []) false)) 23 ≡ counter
 not_counted = refl

@@ -5,7 +5,7 @@ use Rattle.des_net.specs.Network.{Net}
 use Rattle.question_clauses.specs.Additions.{Addition, alarm_added, pair_added}
 use Rattle.question_clauses.specs.Drafts.{added_list}
 use Rattle.log_encode.specs.BuiltLog.{BuiltLog, built_log}
-use Rattle.log_encode.specs.CodedLog.{CodedLog, log_meanings, read_meanings, code_after, addition_width, false_literals, without_names, IsCodedLog}
+use Rattle.log_encode.specs.CodedLog.{CodedLog, log_meanings, read_meanings, code_after, addition_width, false_literals, IsCodedLog}
 use Rattle.log_order.specs.Log.{Log}
 use Rattle.prop_core.specs.Clauses.{Clause}
 use Rattle.prop_core.specs.Listings.{literal_by, written_by}
@@ -27,9 +27,9 @@ pub record BuiltQuestion : Type 0 where
 abbrev pub steps_built : Net → ℕ → CodedSteps
 steps_built net n = record { net = net; steps = n; first = 0 }
 
--- the code of the log, whose alarms have no names, with its clauses, on the variables after those of the steps
+-- the code of the log with its clauses, on the variables after those of the steps
 abbrev pub log_built : Net → Log → ℕ → BuiltLog
-log_built net log n = built_log net (code_grid (steps_built net n)) (variable_count net n) (without_names log)
+log_built net log n = built_log net (code_grid (steps_built net n)) (variable_count net n) log
 
 -- The counter counts the faults of the steps, and then that doubtful alarms are false.
 abbrev pub inputs_built : CodedSteps → CodedLog → List Lit

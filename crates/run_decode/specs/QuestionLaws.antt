@@ -1,5 +1,5 @@
 -- Clauses and assumptions that ask a question say what it asks, and are drawn from its families.
-use Rattle.std.specs.Prelude.{◌≡◌, ◌↔◌, ◌⊎◌, ℕ, ◌<◌, Bool, List, [], ◌∷◌, ◌++◌, length, Option, Some, Contains}
+use Rattle.std.specs.Prelude.{◌↔◌, ◌⊎◌, ℕ, ◌<◌, Bool, List, [], ◌∷◌, ◌++◌, length, Option, Some, Contains}
 use Rattle.des_net.specs.Network.{Net, IsNetwork}
 use Rattle.replay.specs.Explanation.{faults_of}
 use Rattle.des_net.specs.Width.{joined}
@@ -10,7 +10,6 @@ use Rattle.question_clauses.specs.Additions.{Addition, with_addition}
 use Rattle.question_clauses.specs.Decoded.{decoded, decoded_order}
 use Rattle.question_clauses.specs.LogClauses.{guard_literals}
 use Rattle.question_clauses.specs.LogCodes.{IsNamedLog, AreAmong}
-use Rattle.log_encode.specs.CodedLog.{without_names}
 use Rattle.log_order.specs.Log.{Log, ListsOnce, Keeps, IsValidLog}
 use Rattle.prop_core.specs.Clauses.{Clause}
 use Rattle.prop_core.specs.NamedClauses.{value_by}
@@ -69,16 +68,3 @@ PartsAreAssumed = (net : Net) (log : Log) (n : ℕ) (bound : Option ℕ) (meanin
 abbrev pub BoundIsRead : Type 0
 BoundIsRead = (net : Net) (log : Log) (n : ℕ) (meanings : List (ℕ × Meaning)) (state : CounterState) (k : ℕ) → IsCounter state → IsNamedBy meanings (fault_inputs net log n) state → k < length state.columns →
     ReadsAs meanings (bound_literal state k ∷ []) (bound_literals net log n (Some k))
-
--- ---- the names of alarms
-
--- What is asked, and what it is drawn from, is the same without the names of the alarms; so are the runs that truths of meanings give.
-pub record IsAsWithoutNames (net : Net) (log : Log) (n : ℕ) : Type 0 where
-  pub asks : (bound : Option ℕ) (meanings : List (ℕ × Meaning)) (clauses : List Clause) (assumed : List Lit) → Asks net log n bound meanings clauses assumed ↔ Asks net (without_names log) n bound meanings clauses assumed
-  pub instances : (meanings : List (ℕ × Meaning)) (clause : Clause) → IsInstance net log n meanings clause ↔ IsInstance net (without_names log) n meanings clause
-  pub pieces : (value : Meaning → Bool) (alarms : List ℕ) → decoded net log value alarms n ≡ decoded net (without_names log) value alarms n
-  pub orders : (value : Meaning → Bool) (alarms : List ℕ) → decoded_order net log value alarms n ≡ decoded_order net (without_names log) value alarms n
-
--- This holds for each network, log and number of steps.
-abbrev pub AlarmNamesDontMatter : Type 0
-AlarmNamesDontMatter = (net : Net) (log : Log) (n : ℕ) → IsAsWithoutNames net log n

@@ -8,7 +8,7 @@ use Rattle.question_clauses.specs.LogClauses.{guard_literals}
 use Rattle.question_clauses.specs.LogCodes.{AreAmong}
 use Rattle.log_order.specs.Log.{Log, Alarm}
 use Rattle.replay.specs.QuestionSize.{variable_bound}
-use Rattle.log_encode.specs.CodedLog.{without_names, CodedLog, log_meanings, read_meanings, code_after, addition_width}
+use Rattle.log_encode.specs.CodedLog.{CodedLog, log_meanings, read_meanings, code_after, addition_width}
 use Rattle.log_encode.specs.Drafted.{DraftState, IsDraftOf}
 use Rattle.log_encode.specs.WrittenLog.{IsWritten, Follows}
 use Rattle.prop_core.specs.Clauses.{Clause}
@@ -141,5 +141,5 @@ TogetherAsk = (steps : CodedSteps) (code : CodedLog) (counter : CounterState) (c
 
 -- Up to the most columns it has no more variables than the bound on the variables of a question says.
 abbrev pub TogetherAreFew : Type 0
-TogetherAreFew = (steps : CodedSteps) (code : CodedLog) (counter : CounterState) (log : Log) → AreCodedTogether steps code counter → code.log ≡ without_names log → length counter.columns ≤ MOST_COLUMNS →
+TogetherAreFew = (steps : CodedSteps) (code : CodedLog) (counter : CounterState) (log : Log) → AreCodedTogether steps code counter → code.log ≡ log → length counter.columns ≤ MOST_COLUMNS →
     length (whole_meanings steps code counter) ≤ variable_bound steps.net log steps.steps

@@ -3,7 +3,7 @@ ghost use Rattle.run_decode.specs.Decided.{FaithfulDecides, NoneIsLeast, Questio
 ghost use Rattle.run_decode.specs.DecodedRuns.{DecodedExplains, FaultLiteralsStay, FaultsAreInputs};
 ghost use Rattle.run_decode.specs.RunNaming.{BesideOneNaming, CodedAlarmsStand, CodedRunsExplain, TruthsAreRead};
 ghost use Rattle.run_decode.specs.WholeNaming.{ClausesBegin, ClausesGrow, TogetherAreFew, TogetherAsk, TogetherBegins, TogetherGrow, TogetherOneNaming, RoomIsFree};
-ghost use Rattle.run_decode.specs.QuestionLaws.{AlarmNamesDontMatter, BoundIsRead, InstancesStay, PartsAreAssumed, PartsMakeQuestion, QuestionGivesExplanations, QuestionIsDrawn, QuestionIsFaithful};
+ghost use Rattle.run_decode.specs.QuestionLaws.{BoundIsRead, InstancesStay, PartsAreAssumed, PartsMakeQuestion, QuestionGivesExplanations, QuestionIsDrawn, QuestionIsFaithful};
 ghost use Rattle.run_decode.specs.QuestionAxioms.{ColumnsAreCounted, QuestionBegins};
 ghost use Rattle.run_decode.specs.Tells.{FaithfulTells};
 
@@ -44,11 +44,6 @@ pub fn bound_is_read()
 /// A law: literals that are the inputs of the counter by some meanings still are by more.
 pub fn fault_literals_stay()
     ensures { FaultLiteralsStay }
-{}
-
-/// A law: what is asked doesn't depend on the names of the alarms.
-pub fn alarm_names_dont_matter()
-    ensures { AlarmNamesDontMatter }
 {}
 
 // ---- a question that is coded on variables of its own

@@ -16,12 +16,11 @@ mod laws;
 mod runs;
 
 pub use laws::{
-    alarm_names_dont_matter, beside_one_naming, bound_is_read, clauses_begin, clauses_grow,
-    coded_alarms_stand, coded_runs_explain, columns_are_counted, decoded_explains,
-    faithful_decides, faithful_tells, fault_literals_stay, faults_are_inputs, instances_stay,
-    none_is_least, parts_are_assumed, parts_make_question, question_begins,
-    question_gives_explanations, question_is_decided, question_is_drawn, question_is_faithful,
-    refuted_is_decided, room_is_free, together_are_few, together_ask, together_begins,
-    together_grow, together_one_naming, truths_are_read,
+    beside_one_naming, bound_is_read, clauses_begin, clauses_grow, coded_alarms_stand,
+    coded_runs_explain, columns_are_counted, decoded_explains, faithful_decides, faithful_tells,
+    fault_literals_stay, faults_are_inputs, instances_stay, none_is_least, parts_are_assumed,
+    parts_make_question, question_begins, question_gives_explanations, question_is_decided,
+    question_is_drawn, question_is_faithful, refuted_is_decided, room_is_free, together_are_few,
+    together_ask, together_begins, together_grow, together_one_naming, truths_are_read,
 };
 pub use runs::decode;

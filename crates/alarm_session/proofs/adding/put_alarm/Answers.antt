@@ -1,6 +1,6 @@
-use Rattle.std.proofs.Common.{rules, ◌≡◌, ℕ, Bool, None, [], Err, refl, subst, sym}
+use Rattle.std.proofs.Common.{rules, ◌≡◌, ℕ, Bool, None, [], Err, subst, sym}
 use Rattle.alarm_session.proofs.Drafting.{drafted_alike}
-use Rattle.alarm_session.proofs.Joining.{becomes_with, kept_roomy, kept_with, own_draft, own_fits, stage_roomy}
+use Rattle.alarm_session.proofs.Joining.{alarm_by_id, becomes_with, kept_roomy, kept_with, own_draft, own_fits}
 use Rattle.alarm_session.proofs.Keeping.{alarm_codes}
 use Rattle.alarm_session.proofs.Refusing.{refused_by_log}
 use Rattle.alarm_session.proofs.adding.put_alarm.Goals as goal
@@ -11,7 +11,8 @@ use Rattle.alarm_session.specs.declared.refusal.SessionRefusal.TheVariants.{Memo
 use Rattle.des_base.specs.Refusing.{SucceedsUnless}
 use Rattle.log_order.specs.Adding.{with_alarm, with_texts}
 use Rattle.log_order.specs.Certainty.{leaves_doubt}
-use Rattle.des_base.proofs.Results.{on_err}
+use Rattle.log_order.specs.Log.{an_alarm}
+use Rattle.question_clauses.specs.Additions.{alarm_added}
 
 pub reserve_draft-requires-clause-drafted : goal.reserve_draft-requires-clause-drafted
 reserve_draft-requires-clause-drafted g c = own_draft c.args.setting.net.now c.args.setting.steps c.args.kept.now _ _ c.in_ok-drafted.drafted c.in_ok-drafted.ensures.drafted
@@ -25,7 +26,7 @@ returns-in-Ok-clause-kept g c =
     let labels = with_texts [] c.args.labels.now in
     let doubtful = leaves_doubt c.args.certainty in
     let drafted = drafted_alike c.args.setting.net.now c.args.setting.steps kept c.args.id c.args.labels.now c.in_ok-drafted.drafted _ _ c.is_doubtful-doubtful.ensures c.in_ok-drafted.ensures.drafted in
-    kept_with c.args.setting.net.now c.args.setting.steps kept (alarm_addition c.args.labels.now doubtful) (with_alarm kept.log c.args.id c.args.labels.now doubtful) c.in_ok-drafted.drafted drafted
+    kept_with c.args.setting.net.now c.args.setting.steps kept (alarm_added (an_alarm c.args.id labels doubtful)) (with_alarm kept.log c.args.id c.args.labels.now doubtful) c.in_ok-drafted.drafted drafted
     c.requires.kept.of_log (alarm_codes kept.log kept.parts.code.coded.log c.args.id labels doubtful c.requires.kept.of_log.belong.same_log) c.reserve_draft.new.parts c.add_draft.new.parts c.reserve_draft.new.book c.add_draft.new.book
     c.reserve_draft.ensures.kept c.in_ok-reserved.reserved.draft c.in_ok-reserved.ensures.draft c.add_draft.ensures.added c.add.new.self c.in-Ok.ensures.ok (goal.R-pre g) (goal.R-post g) c.add_draft.ensures.ready
 
@@ -35,17 +36,10 @@ returns-in-Ok-clause-added g c =
     let labels = with_texts [] c.args.labels.now in
     let doubtful = leaves_doubt c.args.certainty in
     let drafted = drafted_alike c.args.setting.net.now c.args.setting.steps kept c.args.id c.args.labels.now c.in_ok-drafted.drafted _ _ c.is_doubtful-doubtful.ensures c.in_ok-drafted.ensures.drafted in
-    becomes_with c.args.setting.net.now c.args.setting.steps kept (alarm_addition c.args.labels.now doubtful) (with_alarm kept.log c.args.id c.args.labels.now doubtful) c.in_ok-drafted.drafted drafted
+    becomes_with c.args.setting.net.now c.args.setting.steps kept (alarm_added (an_alarm c.args.id labels doubtful)) (with_alarm kept.log c.args.id c.args.labels.now doubtful) c.in_ok-drafted.drafted drafted
     c.requires.kept.of_log (alarm_codes kept.log kept.parts.code.coded.log c.args.id labels doubtful c.requires.kept.of_log.belong.same_log) c.reserve_draft.new.parts c.add_draft.new.parts c.reserve_draft.new.book c.add_draft.new.book
     c.reserve_draft.ensures.kept c.in_ok-reserved.reserved.draft c.in_ok-reserved.ensures.draft c.add_draft.ensures.added c.add.new.self c.in-Ok.ensures.ok (goal.R-pre g) (goal.R-post g) c.add_draft.ensures.ready
-    c.requires.kept.ready.coded c.add_draft.ensures.few c.in_ok-drafted.drafted.size
-
-pub returns-in_err-reserved-clause-same : goal.returns-in_err-reserved-clause-same
-returns-in_err-reserved-clause-same g c =
-    on_err _ _ (stage_roomy c.args.kept.now c.reserve_draft.new.parts c.reserve_draft.new.book c.args.kept.now.log c.args.kept.now.size c.reserve_draft.ensures.kept refl)
-
-pub returns-in-Err-clause-same : goal.returns-in-Err-clause-same
-returns-in-Err-clause-same g c = stage_roomy c.args.kept.now c.reserve_draft.new.parts c.reserve_draft.new.book c.add.new.self c.args.kept.now.size c.reserve_draft.ensures.kept c.in-Err.ensures.err
+    c.requires.kept.ready.coded c.add_draft.ensures.few c.in_ok-drafted.drafted.size (alarm_addition c.args.labels.now doubtful) (alarm_by_id kept.log c.args.id c.args.labels.now doubtful)
 
 pub returns-in-Err-clause-kept : goal.returns-in-Err-clause-kept
 returns-in-Err-clause-kept g c =

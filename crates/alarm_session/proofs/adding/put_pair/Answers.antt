@@ -1,10 +1,8 @@
 use Rattle.std.proofs.Common.{◌∙◌, Some, ap, arith, sym}
-use Rattle.alarm_session.proofs.Joining.{becomes_again}
 use Rattle.alarm_session.proofs.Keeping.{old_pair, paired}
 use Rattle.alarm_session.proofs.Refusing.{accepted}
 use Rattle.alarm_session.proofs.adding.put_pair.Goals as goal
 use Rattle.alarm_session.specs.Refusals.{refusal_of_pair}
-use Rattle.alarm_session.specs.Session.{stage_of}
 use Rattle.replay.specs.QuestionSize.{question_size}
 
 pub returns-then-has_pair-clause-refused : goal.returns-then-has_pair-clause-refused
@@ -14,6 +12,3 @@ returns-then-has_pair-clause-refused g c =
     let there = sym c.has_pair.ensures ∙ c.if-has_pair.true in
     let same = ap (λ l. question_size net l c.args.setting.steps) (old_pair log c.args.first c.args.second there) in
     accepted (refusal_of_pair log (Some (c.args.first, c.args.second))) (question_size net (paired log c.args.first c.args.second) c.args.setting.steps) c.in_default.ensures.refused (omega (arith, same, c.requires.kept.of_log.limits.size))
-
-pub returns-then-has_pair-clause-added : goal.returns-then-has_pair-clause-added
-returns-then-has_pair-clause-added g c = becomes_again c.args.setting.net.now c.args.setting.steps (stage_of c.args.kept.now) c.args.first c.args.second (sym c.has_pair.ensures ∙ c.if-has_pair.true)

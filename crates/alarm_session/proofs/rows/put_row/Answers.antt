@@ -1,5 +1,5 @@
 use Rattle.std.proofs.Common.{rules, ◌∙◌, false, true, subst, sym}
-use Rattle.alarm_session.proofs.Rowing.{alarm_again, alarm_wanted, before_again, before_wanted, maybe_again, maybe_wanted, nothing_added}
+use Rattle.alarm_session.proofs.Rowing.{alarm_wanted, before_again, before_wanted, maybe_wanted, nothing_added}
 use Rattle.alarm_session.proofs.rows.put_row.Goals as goal
 use Rattle.alarm_session.specs.Refusals.{refusal_of_alarm, refusal_of_before}
 use Rattle.alarm_session.specs.Session.{stage_of}
@@ -51,14 +51,6 @@ returns-in_ok-put_before-in-Before-clause-refused g c =
 
 pub returns-in-Ask-clause-added : goal.returns-in-Ask-clause-added
 returns-in-Ask-clause-added g c = nothing_added c.args.setting.net.now c.args.setting.steps (stage_of c.args.kept.now) c.args.row.now c.in-Ask.is
-
-pub returns-in_ok-put_alarm-in-Alarm-clause-again : goal.returns-in_ok-put_alarm-in-Alarm-clause-again
-returns-in_ok-put_alarm-in-Alarm-clause-again g c =
-    alarm_again c.args.kept.now.log c.args.row.now (stage_of c.args.kept.now) (stage_of c.put_alarm.new.kept) c.in-Alarm.id c.in-Alarm.labels c.in-Alarm.is
-
-pub returns-in_ok-put_alarm-in-Maybe-clause-again : goal.returns-in_ok-put_alarm-in-Maybe-clause-again
-returns-in_ok-put_alarm-in-Maybe-clause-again g c =
-    maybe_again c.args.kept.now.log c.args.row.now (stage_of c.args.kept.now) (stage_of c.put_alarm-in-Maybe.new.kept) c.in-Maybe.id c.in-Maybe.labels c.in-Maybe.is
 
 pub returns-in_ok-put_before-in-Before-clause-again : goal.returns-in_ok-put_before-in-Before-clause-again
 returns-in_ok-put_before-in-Before-clause-again g c =

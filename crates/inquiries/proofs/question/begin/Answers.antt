@@ -15,7 +15,3 @@ returns-in-Some-clause-begun g c =
     let built = ok_some c.build.result (AreBuilt (goal.R-pre g) (goal.R-post g) net log c.args.steps c.args.solver book) parts (sym c.in-Some.is ∙ c.ok.ensures.value) c.build.ensures.built in
     let adds = front_adds (question_axioms net log c.args.steps 0) c.args.book.now.entries book c.requires.empty c.build.ensures.front in
     begins (goal.R-pre g) (goal.R-post g) net log c.args.steps c.args.solver parts c.args.book.now.entries book c.requires.limits.steps c.requires.empty adds built
-
-pub returns-in-Some-clause-steps : goal.returns-in-Some-clause-steps
-returns-in-Some-clause-steps g c =
-    (ok_some c.build.result (AreBuilt (goal.R-pre g) (goal.R-post g) c.args.case.now.net c.args.case.now.log c.args.steps c.args.solver c.build.new.book.entries) c.in-Some.parts (sym c.in-Some.is ∙ c.ok.ensures.value) c.build.ensures.built).steps

@@ -1,5 +1,5 @@
 use Rattle.log_encode.proofs.laws.names_dont_matter.Goals as goal
-use Rattle.log_encode.proofs.WrittenLemmas.{names_dont_matter}
+use Rattle.log_encode.proofs.Nameless.{names_dont_matter}
 
 pub returns : goal.returns
 returns c = names_dont_matter

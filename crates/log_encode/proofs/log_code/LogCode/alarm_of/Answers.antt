@@ -1,10 +1,7 @@
 use Rattle.std.proofs.Common.{◌∙◌, sym, arith}
-use Rattle.log_encode.proofs.CallLemmas.{turned_alarm, turned_count, alarm_within, kept_count, matched_is, none_at_first, none_more, found_first, found_none}
+use Rattle.log_encode.proofs.CallLemmas.{turned_alarm, turned_count, alarm_within, matched_is, none_more, found_first, found_none}
 use Rattle.log_encode.proofs.log_code.LogCode.alarm_of.Goals as goal
 use Rattle.prop_core.specs.Clauses.{value_in}
-
-pub loop-number-init : goal.loop-number-init
-loop-number-init c = none_at_first c.args.self.now (value_in c.args.assign.now) c.args.event c.args.step
 
 pub is_matched-requires-clause-within : goal.is_matched-requires-clause-within
 is_matched-requires-clause-within c =
@@ -16,14 +13,6 @@ is_matched-requires-clause-values c =
     let is = turned_alarm c.self.inside c.args.self.now c.deref-alarm-items.result.now c.loop-number.number c.alarm-item.result c.self.view_is c.self.invariant c.deref-alarm-items.ensures.value c.loop-number-test.true c.alarm-item.is in
     let bound = is.0.within in
     omega (arith, bound, c.requires.values)
-
-pub overflow_cast-result : goal.overflow_cast-result
-overflow_cast-result c =
-    let kept = kept_count c.self.inside c.args.self.now c.self.view_is c.self.invariant in
-    let count = turned_count c.self.inside c.args.self.now c.deref-alarm-items.result.now c.self.view_is c.self.invariant c.deref-alarm-items.ensures.value in
-    let bound = kept.1.alarms in
-    let few = kept.1.few in
-    omega (arith, count, bound, few, c.loop-number-test.true)
 
 pub returns-then-is_matched : goal.returns-then-is_matched
 returns-then-is_matched c =

@@ -1,5 +1,5 @@
 use Rattle.std.proofs.Common.{◌≡◌, ◌∙◌, Some, sym, ap, subst, arith}
-use Rattle.log_encode.proofs.CallLemmas.{found_alarm, alarm_within, kept_count}
+use Rattle.log_encode.proofs.CallLemmas.{found_alarm, alarm_within}
 use Rattle.log_encode.proofs.log_code.LogCode.done.Goals as goal
 use Rattle.log_encode.specs.AlarmVariables.{AreWithinLimit, done_variable}
 use Rattle.log_encode.specs.CodedLog.{log_meanings}
@@ -22,9 +22,6 @@ returns-clause-within c =
     let is = c.done.ensures.variable ∙ ap (λ (v : AlarmVars). done_variable v 0) c.vars_of.ensures in
     let bound = found.0.within in
     omega (arith, is, bound)
-
-pub returns-clause-few : goal.returns-clause-few
-returns-clause-few c = (kept_count c.self.inside c.args.self.now c.self.view_is c.self.invariant).1.few
 
 pub returns-clause-names : goal.returns-clause-names
 returns-clause-names c =

@@ -1,7 +1,6 @@
-use Rattle.std.proofs.Common.{◌∙◌, ◌<◌, ◌++◌, length, refl, sym, ap, subst, arith}
-use Rattle.des_base.specs.declared.TheConstants.{VAR_LIMIT}
+use Rattle.std.proofs.Common.{◌∙◌, ◌++◌, length, refl, sym, ap, subst, arith}
 use Rattle.question_clauses.specs.Additions.{pair_added}
-use Rattle.log_encode.proofs.CallLemmas.{draft_asked, kept_count}
+use Rattle.log_encode.proofs.CallLemmas.{kept_count}
 use Rattle.log_encode.proofs.CodeLemmas.{grown_is_coded}
 use Rattle.log_encode.proofs.DraftLemmas.{pair_brings}
 use Rattle.log_encode.proofs.log_code.LogCode.draft_before.Goals as goal
@@ -11,10 +10,6 @@ use Rattle.log_encode.specs.Drafted.{LogCodeState}
 use Rattle.prop_core.specs.Listings.{IsListed}
 use Rattle.log_encode.specs.Written.{pair_written}
 use Rattle.prop_core.specs.ClauseStore.{ClauseStore}
-
-pub write_pair-requires-clause-asked : goal.write_pair-requires-clause-asked
-write_pair-requires-clause-asked c =
-    subst (λ (s : LogCodeState). s.coded.asked < VAR_LIMIT) (sym c.self.view_is) (draft_asked c.args.self.now.coded (kept_count c.self.inside c.args.self.now c.self.view_is c.self.invariant).1)
 
 pub returns : goal.returns
 returns c =

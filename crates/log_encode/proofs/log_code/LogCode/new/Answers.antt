@@ -2,7 +2,7 @@ use Rattle.std.proofs.Common.{◌≡◌, ◌∙◌, ◌+◌, ◌<◌, ◌++◌, 
 use Rattle.des_base.specs.declared.TheConstants.{VAR_LIMIT}
 use Rattle.des_net.specs.Network.{Net}
 use Rattle.question_clauses.specs.LogNames.{first_meanings}
-use Rattle.log_encode.proofs.CallLemmas.{begins, guards_len, first_asked, first_known, first_small, first_kept, first_is_empty, first_appends}
+use Rattle.log_encode.proofs.CallLemmas.{begins, guards_len, first_known, first_small, first_kept, first_is_empty, first_appends}
 use Rattle.log_encode.proofs.log_code.LogCode.new.Goals as goal
 use Rattle.log_encode.specs.CodedLog.{read_meanings, empty_code}
 use Rattle.log_encode.specs.declared.taken.ChainEnd.{ChainEnd}
@@ -10,11 +10,6 @@ use Rattle.log_encode.specs.View.{AreKept, coded_of}
 use Rattle.log_encode.specs.WrittenLog.{AppendsFirst}
 use Rattle.log_encode.specs.Written.{all_closed_written, guards_of}
 use Rattle.prop_core.specs.ClauseStore.{ClauseStore}
-
-pub guards_of-requires-clause-asked : goal.guards_of-requires-clause-asked
-guards_of-requires-clause-asked c =
-    first_asked c.args.net.now c.args.grid c.count-asked.result c.in_ok-ends.ends.items
-    (begins c.args.net.now c.args.grid c.args.vars.now c.count-asked.result c.in_ok-ends.ends.items c.count-asked.ensures.count c.requires.events c.requires.made c.requires.few c.in_ok-ends.ensures)
 
 pub guards_of-requires-clause-closed : goal.guards_of-requires-clause-closed
 guards_of-requires-clause-closed c =
