@@ -42,18 +42,6 @@ module _ (old : CounterState) (inputs : List Lit) (first : ℕ) (written : List 
       let step = suc-mul (length inputs - (done + 1)) (length old.columns) in
       ap (λ k. k * length old.columns) rest ∙ omega (arith, step)
 
-  pub one_reserved : 1 ≤ state.spare_inputs
-  one_reserved = let reserved = are.reserved in omega (arith, reserved, less)
-
-  pub one_within : (limit : ℕ) → first + length inputs * length old.columns ≤ limit → vars + length state.columns ≤ limit
-  one_within limit fits = let columns = are.columns in let is = are.count in omega (arith, fits, columns, is, one_less)
-
-  pub one_room : HasRoom store (2 * length state.columns) (5 * length state.columns)
-  one_room = record {
-    clauses = let columns = are.columns in let room = are.room.clauses in omega (arith, columns, room, one_less);
-    literals = let columns = are.columns in let room = are.room.literals in omega (arith, columns, room, one_less);
-  }
-
   pub next_added : (d : Lit) (after : CounterState) (next : ℕ) (new : ClauseStore) → AddsInput (get_or inputs done d) state vars store after next new → IsCounter after →
       AreAdded old inputs first written (done + 1) after next new
   next_added d after next new adds counter = record {

@@ -46,29 +46,6 @@ adopting_more start t u all count id next a i x h e =
       spare = let b = a.spare in omega arith;
     }
 
--- in the end all clauses are
-pub attached_all : (start t : TrailState) (all : List Clause) (count : ℕ) → IsAdopting start t all count → count ≡ length all → HasAttached start t all
-attached_all start t all count a e = record {
-  clauses = ⊎_elim (λ h. h)
-      (λ h. let n : length t.clauses ≡ length all = sym h ∙ e in
-      let f : take (length all) all ≡ all = grind (arith, common_steps) in
-      sym a.front ∙ ap (λ (k : ℕ). take k all) n ∙ f)
-      a.whole;
-  joined = λ n h. a.joined n (omega arith);
-  literals = a.literals;
-  reasons = a.reasons;
-  vars = a.vars;
-  spare = let s = a.spare in omega arith;
-}
-
--- each clause has known variables
-pub known_next : (vars : ℕ) (all : List Clause) (n : ℕ) → AllByRecursion (HasValues vars) all → n < length all → IfSome (clause_numbered all (n + 1)) (HasValues vars)
-known_next vars all n a h =
-    let z : eqb (n + 1) 0 ≡ false = ne_eqb (n + 1) 0 (λ e. absurd (omega arith)) in
-    let m : n + 1 - 1 ≡ n = omega arith in
-    let g : clause_numbered all (n + 1) ≡ Some (get_or all n []) = rw (z, m) (slice_get-get_or all n [] h) in
-    subst (λ (o : Option Clause). IfSome o (HasValues vars)) (sym g) (each_below vars all n a h)
-
 pub all_wider : (vars more : ℕ) (all : List Clause) → vars ≤ more → AllByRecursion (HasValues vars) all → AllByRecursion (HasValues more) all
 all_wider vars more [] h a = tt
 all_wider vars more (c ∷ all) h a = (wider vars more c h a.0, all_wider vars more all h a.1)
@@ -88,11 +65,6 @@ known_viewed {R} s v all clauses e f below k same =
     let g = subst (λ (x : SolverState R). IsFront x.adopted all) (sym e) f in
     let h = subst (λ (x : SolverState R). AllByRecursion (HasValues x.vars) (drop (length x.adopted) all)) (sym e) k in
     subst (AllByRecursion (HasValues v.vars)) (sym same) (known_all v.vars v.adopted all g below h)
-
-pub front_viewed : {R : Type 0} (s v : SolverState R) (all clauses : List Clause) → v ≡ s → IsFront s.adopted all → clauses ≡ all → take (length v.adopted) clauses ≡ v.adopted
-front_viewed {R} s v all clauses e f same =
-    let g = subst (λ (x : SolverState R). IsFront x.adopted all) (sym e) f in
-    subst (λ (cs : List Clause). take (length v.adopted) cs ≡ v.adopted) (sym same) g
 
 -- a book that has one more axiom
 pub record HasOneMore (old : List Clause) (new : List BookEntry) (vars : ℕ) : Type 0 where

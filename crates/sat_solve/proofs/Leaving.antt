@@ -83,9 +83,6 @@ axioms_no_final old new adds = record { since = map axiomatic adds.axioms; whole
 pub learnt_alone : (old new : List BookEntry) → HasLearnt old new → PutsNoFinal old new
 learnt_alone old new put = record { since = put.since; whole = put.whole; none = learnt_no_final put.since put.all_learnt }
 
-pub nothing_put : (old : List BookEntry) → PutsNoFinal old old
-nothing_put old = record { since = []; whole = sym (append-nil old); none = refl }
-
 abbrev both_put : (old mid new one other : List BookEntry) → mid ≡ old ++ one → new ≡ mid ++ other → new ≡ old ++ (one ++ other)
 both_put old mid new one other first then = then ∙ ap (λ (b : List BookEntry). b ++ other) first ∙ append_assoc old one other
 

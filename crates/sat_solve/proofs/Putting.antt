@@ -18,9 +18,6 @@ learnt_none book = record { since = []; whole = sym (append-nil book); all_learn
 pub put_for_spent : (book : List BookEntry) → HasPut book book Spent
 put_for_spent book = record { since = []; whole = sym (append-nil book); put = refl }
 
-pub learnt_one : (book new : List BookEntry) (left last : ℕ) → LearnsOne book new left last → HasLearnt book new
-learnt_one book new left last p = record { since = learnt p.clause p.hints ∷ []; whole = p.put; all_learnt = refl }
-
 are_learnt_both : (xs ys : List BookEntry) → AreLearnt xs → AreLearnt ys → AreLearnt (xs ++ ys)
 are_learnt_both xs ys a b = list_all-append is_learnt xs ys ∙ and_from _ _ a b
 

@@ -37,6 +37,3 @@ pub marked_same : (round : ℕ) (rounds : List ℕ) (place : ℕ) → place < le
 marked_same round rounds place k e =
     let on : get_or (marked_in round rounds) place false ≡ true = get_or-map (λ r. eqb r round) rounds place 0 false k ∙ eq-eqb (get_or rounds place 0) round e in
     ap (λ (b : Bool). set (marked_in round rounds) place b) (sym on) ∙ set-get_or (marked_in round rounds) place false
-
-pub marked_past : (round : ℕ) (rounds : List ℕ) (place : ℕ) → length rounds ≤ place → slice_set (marked_in round rounds) place true ≡ marked_in round rounds
-marked_past round rounds place k = set_past (marked_in round rounds) place true (rw (length-map rounds (λ r. eqb r round)) k)

@@ -30,10 +30,6 @@ counts_none (None ∷ reasons) i e h n = let q : level_of (no_reason ∷ reasons
 counts_none (Some number ∷ reasons) zero e h n = cc
 counts_none (Some number ∷ reasons) (suc i) e h n = counts_none reasons i e (omega arith) n
 
--- at level 0 nothing was decided
-pub level_none : (reasons : List (Option ℕ)) → level_of reasons ≡ 0 → (i : ℕ) → i < length reasons → reason_at reasons i ≡ None → ⊥
-level_none reasons e i h n = counts_none reasons i e h n
-
 -- propagation decides nothing
 no_new_decision : (old new : List (Option ℕ)) (k : ℕ) → take (length old) new ≡ old → level_of new ≡ level_of old → length old ≤ k → k < length new → reason_at new k ≡ None → ⊥
 no_new_decision old new k e c h b n =
@@ -145,10 +141,6 @@ under_kept assumed vars level t u s same k = record {
   below = s.below;
   compatible = s.compatible;
 }
-
--- at level 0 any assumptions may come
-pub under_none : (assumed : List Lit) (vars : ℕ) (t : TrailState) → level_of t.reasons ≡ 0 → length t.reasons ≡ length t.literals → HasValues vars assumed → AreConsistent assumed → IsUnder assumed vars t
-under_none assumed vars t e same b c = record { first = λ k h n. absurd (level_none t.reasons e k (omega arith) n); below = b; compatible = c }
 
 -- where an assumption is not true, each decision is an assumption
 pub next_assumed : (assumed : List Lit) (vars : ℕ) (t : TrailState) (l : Lit) → IsUnder assumed vars t → IsAssumptionLeft t.literals assumed l → HasAssumedDecisions t assumed (length t.literals)

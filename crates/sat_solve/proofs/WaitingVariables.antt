@@ -40,9 +40,6 @@ read_var literals place l e = has_at literals place l.var (slice_get_within lite
 pub read_stands : (literals : List Lit) (place : ℕ) (l : Lit) → slice_get literals place ≡ Some l → StandsAt literals l.var place
 read_stands literals place l e = record { within = slice_get_within literals place l e; at = ap (λ (x : Lit). x.var) (read_at literals place l e) }
 
-pub read_below : (vars : ℕ) (literals : List Lit) (place : ℕ) (l : Lit) → HasValues vars literals → slice_get literals place ≡ Some l → l.var < vars
-read_below vars literals place l h e = below_at vars literals l h (true_at literals l place (slice_get_within literals place l e) (read_at literals place l e))
-
 -- the value says whether a literal is true
 pub value_is : (literals : List Lit) (l : Lit) (b : Bool) → AreConsistent literals → trail_value literals l.var ≡ Some b → beq b l.positive ≡ is_true literals l
 value_is literals l b c e = by (beq b l.positive) refl
@@ -50,9 +47,6 @@ value_is literals l b c e = by (beq b l.positive) refl
     by : (t : Bool) → beq b l.positive ≡ t → t ≡ is_true literals l
     by true f = sym (value_agrees literals l b e f)
     by false f = ⊎_elim (λ t. absurd (let n = c l t in let d = value_denies literals l b e f in let z : true ≡ false = sym d ∙ n in cc)) (λ t. sym t) (cases_Bool (is_true literals l))
-
-pub value_not : (literals : List Lit) (l : Lit) → trail_value literals l.var ≡ None → is_true literals l ≡ false
-value_not literals l e = (open_parts literals l (value_lacks literals l e)).0
 
 -- the place is above the level
 above_cut : (reasons : List (Option ℕ)) (level kept place : ℕ) → IsUpToLevel reasons level kept → kept ≤ place → place < length reasons → level < level_at reasons place

@@ -1,9 +1,5 @@
 -- By its files, whichever these are, and then as it answers.
-use Rattle.std.proofs.Common.{length, arith}
-use Rattle.std.proofs.lemmas.Bool.{ltb-true}
 use Rattle.endings.specs.Files.{loads}
-use Rattle.diagnose_cli.specs.Tasks.{one}
-use Rattle.diagnose_cli.proofs.Called.{counted}
 use Rattle.diagnose_cli.proofs.Dues.{answer_due, answer_left, known, no_kinds, nothing_left, stop_due, unasked}
 use Rattle.diagnose_cli.proofs.answering.answer_over.Goals as goal
 
@@ -35,12 +31,3 @@ returns-clause-no_load g c none = c.fetch.ensures.unread (no_kinds g.C.Answering
 
 pub returns-clause-no_question : goal.returns-clause-no_question
 returns-clause-no_question g c none = c.answer-answer.ensures.unasked (unasked g.C.Answering.named c.args.words.now (g.C.Answering.listed c.args.words.now) (g.C.Answering.word c.args.command.now) c.requires.called g.C.Files.Reading.kinds g.met.C.Answering.has_files none)
-
-pub fetch-requires : goal.fetch-requires
-fetch-requires g c =
-    let many = counted (one g.C.Answering.named) c.args.words.now (g.C.Answering.word c.args.command.now) c.requires.called.read in
-    let room = ltb-true (length g.C.Files.Reading.kinds) g.C.Answering.named.count g.met.C.Answering.has_words in
-    omega (arith, many, room)
-
-pub answer-answer-requires-clause-words : goal.answer-answer-requires-clause-words
-answer-answer-requires-clause-words g c = counted (one g.C.Answering.named) c.args.words.now (g.C.Answering.word c.args.command.now) c.requires.called.read

@@ -2,7 +2,6 @@
 use Rattle.std.proofs.Common.{◌≡◌, ◌∙◌, [], ap, subst, sym}
 use Rattle.des_base.specs.Outside.{Rose}
 use Rattle.endings.specs.Puts.{Speaks}
-use Rattle.telling.proofs.Failing.{none_failed}
 use Rattle.diagnose_cli.specs.Sessions.{MaySay}
 use Rattle.diagnose_cli.proofs.Speeches.{broke_before}
 use Rattle.diagnose_cli.proofs.session_command.carry_out_rows.Goals as goal
@@ -14,6 +13,3 @@ returns-in-Err-clause-speaks g c =
     let before = c.args.out.now in
     subst (λ (s : _). Speaks (MaySay plan.net plan.limits.steps plan.limits.budget plan.script book) (book ≡ []) (g.S.Sink.taken before) (g.S.Sink.taken s) (Rose (g.S.Sink.faults before) (g.S.Sink.faults s)) 9) (sym c.in-Err.ensures.nothing_put)
     (broke_before _ _ (ap (λ (b : _). b.entries) c.in-Err.ensures.no_book ∙ c.requires.empty) _ _)
-
-pub returns-in-Err-clause-failures : goal.returns-in-Err-clause-failures
-returns-in-Err-clause-failures g c = none_failed _ _ _ (λ put. cc) (ap g.S.Sink.failures c.in-Err.ensures.nothing_put)

@@ -1,21 +1,13 @@
 -- By its files, whichever these are, and then as it tells.
-use Rattle.std.proofs.Common.{◌≡◌, ◌∙◌, [], List, true, false, length, subst, sym, arith}
-use Rattle.std.proofs.lemmas.Bool.{ltb-true}
+use Rattle.std.proofs.Common.{◌≡◌, ◌∙◌, [], List, true, false, subst, sym}
 use Rattle.endings.specs.Files.{loads}
 use Rattle.endings.specs.Texts.{FileKind}
 use Rattle.diagnose_cli.specs.FilesRead.{AreBytes}
-use Rattle.diagnose_cli.specs.Commands.{told_often}
 use Rattle.diagnose_cli.specs.Tasks.{speaking}
-use Rattle.diagnose_cli.proofs.Called.{called_so, counted, of_called}
+use Rattle.diagnose_cli.proofs.Called.{called_so, of_called}
 use Rattle.diagnose_cli.proofs.Dues.{left_over, nothing_left}
 use Rattle.diagnose_cli.proofs.Speeches.{files_speak, files_stop}
 use Rattle.diagnose_cli.proofs.speaking.speak.Goals as goal
-
-pub fetch-requires : goal.fetch-requires
-fetch-requires g c =
-    let many = counted (told_often g.C.Speaking.name g.C.Speaking.kinds g.C.Speaking.speech) c.args.words.now c.args.limits c.requires.called.read in
-    let room = ltb-true (length g.C.Files.Reading.kinds) 5 g.met.C.Speaking.has_words in
-    omega (arith, many, room)
 
 pub returns-in-Ok-clause-speaks : goal.returns-in-Ok-clause-speaks
 returns-in-Ok-clause-speaks g c =

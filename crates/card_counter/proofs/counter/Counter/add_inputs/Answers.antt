@@ -1,19 +1,9 @@
 use Rattle.std.proofs.Common.{◌≡◌, ◌∙◌, get_or}
 use Rattle.std.proofs.lemmas.List.{get_or_default}
 use Rattle.prop_core.specs.Trail.{no_literal}
-use Rattle.des_base.specs.declared.TheConstants.{VAR_LIMIT}
-use Rattle.card_counter.proofs.Adding.{next_added, one_reserved, one_within, one_room}
+use Rattle.card_counter.proofs.Adding.{next_added}
 use Rattle.card_counter.proofs.Exact.{counter_is_exact}
 use Rattle.card_counter.proofs.counter.Counter.add_inputs.Goals as goal
-
-pub add_input-requires-clause-reserved : goal.add_input-requires-clause-reserved
-add_input-requires-clause-reserved c = one_reserved _ _ _ _ _ _ _ _ c.loop-input.invariant c.loop-input-test.true
-
-pub add_input-requires-clause-within : goal.add_input-requires-clause-within
-add_input-requires-clause-within c = one_within _ _ _ _ _ _ _ _ c.loop-input.invariant c.loop-input-test.true VAR_LIMIT c.requires.within
-
-pub add_input-requires-clause-room : goal.add_input-requires-clause-room
-add_input-requires-clause-room c = one_room _ _ _ _ _ _ _ _ c.loop-input.invariant c.loop-input-test.true
 
 pub loop-input-preserved : goal.loop-input-preserved
 loop-input-preserved c =

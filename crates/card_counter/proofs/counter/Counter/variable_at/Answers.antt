@@ -1,15 +1,10 @@
 use Rattle.std.proofs.Common.{arith, ◌≤◌}
-use Rattle.card_counter.proofs.RowLemmas.{column_there, row_there, is_own, is_later, is_small}
+use Rattle.card_counter.proofs.RowLemmas.{column_there, is_own, is_later, is_small}
 use Rattle.card_counter.proofs.counter.Counter.variable_at.Goals as goal
 
 pub index-own-requires : goal.index-own-requires
 index-own-requires c =
     let there = column_there _ _ _ _ _ _ _ c.self.view_is c.self.invariant.laid c.requires in
-    grind (arith, there)
-
-pub index-requires : goal.index-requires
-index-requires c =
-    let there = row_there _ _ _ _ _ _ _ c.self.view_is c.self.invariant.laid c.requires in
     grind (arith, there)
 
 pub overflow_add-result : goal.overflow_add-result

@@ -4,10 +4,6 @@ use Rattle.inquiries.proofs.Refutations.{ok_both}
 use Rattle.diagnose_cli.proofs.ProofAnswers.{answers_nothing, answers_undecided, answers_within, can_print, open_known}
 use Rattle.diagnose_cli.proofs.proof_command.RefutationReplying.reply.Goals as goal
 
-pub reply_of_proof-requires-clause-ascend : goal.reply_of_proof-requires-clause-ascend
-reply_of_proof-requires-clause-ascend c =
-    (can_print c.args.case.now.net c.args.case.now.log c.args.steps c.args.self.now.budget c.requires.answers.0 c.args.answer c.requires.answers.1 c.in-Within.bound c.in-Within.proof c.in-Within.is).0
-
 pub reply_of_proof-requires-clause-above : goal.reply_of_proof-requires-clause-above
 reply_of_proof-requires-clause-above c =
     (can_print c.args.case.now.net c.args.case.now.log c.args.steps c.args.self.now.budget c.requires.answers.0 c.args.answer c.requires.answers.1 c.in-Within.bound c.in-Within.proof c.in-Within.is).1

@@ -1,21 +1,9 @@
 -- The others, and then the last one.
-use Rattle.std.proofs.Common.{◌++◌, ◌∷◌, [], length-append, arith}
+use Rattle.std.proofs.Common.{◌++◌, ◌∷◌, []}
 use Rattle.endings.specs.Files.{loads}
 use Rattle.diagnose_cli.specs.FilesRead.{StopsAmong}
-use Rattle.diagnose_cli.proofs.FilesInOrder.{never_none, stop_handed, stops_before, then_read, then_stops}
+use Rattle.diagnose_cli.proofs.FilesInOrder.{stop_handed, stops_before, then_read, then_stops}
 use Rattle.diagnose_cli.proofs.reading.ThenReading.fetch.Goals as goal
-
-pub fetch-requires : goal.fetch-requires
-fetch-requires g c =
-    let long = length-append g.A.Reading.kinds (g.B.Behind.kind ∷ []) in
-    let room = c.requires in
-    omega (arith, long, room)
-
-pub fetch_behind-requires-clause-words : goal.fetch_behind-requires-clause-words
-fetch_behind-requires-clause-words g c =
-    let long = length-append g.A.Reading.kinds (g.B.Behind.kind ∷ []) in
-    let room = c.requires in
-    omega (arith, long, room)
 
 pub returns-in_err-before-clause-stop : goal.returns-in_err-before-clause-stop
 returns-in_err-before-clause-stop g c =
@@ -37,18 +25,3 @@ returns-clause-read g c =
     let shelf = g.F.Shelf in
     then_read c.args.words.now g.B.Behind.kind (shelf.held c.args.shelf.now) (shelf.held c.fetch.new.shelf) (shelf.faults c.args.shelf.now) (shelf.faults c.fetch.new.shelf) (shelf.faults c.fetch_behind.new.shelf)
     c.fetch.ensures.kept c.fetch.ensures.never_falls g.A.Reading.kinds g.A.Reading.reads g.B.Behind.tells g.B.Behind.fault g.met.B.Behind.faulty c.in_ok-before.before c.in_ok-before.ensures.read c.in_ok-last.last c.in_ok-last.ensures.read
-
-pub returns-clause-never_falls : goal.returns-clause-never_falls
-returns-clause-never_falls g c n = omega (arith, c.fetch.ensures.never_falls n, c.fetch_behind.ensures.never_falls n)
-
-pub returns-in_err-last-clause-never_falls : goal.returns-in_err-last-clause-never_falls
-returns-in_err-last-clause-never_falls g c n = omega (arith, c.fetch.ensures.never_falls n, c.fetch_behind.ensures.never_falls n)
-
-pub returns-in_err-before-clause-unread : goal.returns-in_err-before-clause-unread
-returns-in_err-before-clause-unread g c none = absurd (never_none g.A.Reading.kinds g.B.Behind.kind none)
-
-pub returns-in_err-last-clause-unread : goal.returns-in_err-last-clause-unread
-returns-in_err-last-clause-unread g c none = absurd (never_none g.A.Reading.kinds g.B.Behind.kind none)
-
-pub returns-clause-unread : goal.returns-clause-unread
-returns-clause-unread g c none = absurd (never_none g.A.Reading.kinds g.B.Behind.kind none)

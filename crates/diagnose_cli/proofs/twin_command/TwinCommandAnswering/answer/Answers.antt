@@ -1,14 +1,8 @@
 -- By the fault event that the word names, by the size of the question, and by what is answered.
-use Rattle.std.proofs.Common.{◌∙◌, Some, None, Err, refl, sym, arith}
-use Rattle.endings.specs.declared.stop.Stop.TheVariants.{NoFault}
+use Rattle.std.proofs.Common.{◌∙◌, Some, sym, arith}
 use Rattle.diagnose_cli.proofs.Limits.{by_large, by_within}
-use Rattle.diagnose_cli.proofs.TwinAnswers.{closes_for, fault_left, none_of}
+use Rattle.diagnose_cli.proofs.TwinAnswers.{closes_for, fault_left}
 use Rattle.diagnose_cli.proofs.twin_command.TwinCommandAnswering.answer.Goals as goal
-
-pub returns-in_default-clause-closes : goal.returns-in_default-clause-closes
-returns-in_default-clause-closes c texts read _ =
-    let limits = c.args.self.now in
-    closes_for limits.steps limits.after limits.budget c.args.words.now c.args.book.now.entries texts c.args.files.now read None (sym (none_of c.named_fault.result c.in_default.not-Some) ∙ c.named_fault.ensures.event) (Err NoFault) refl
 
 pub returns-then-size-gt-MOST_SIZE-clause-closes : goal.returns-then-size-gt-MOST_SIZE-clause-closes
 returns-then-size-gt-MOST_SIZE-clause-closes c texts read _ =
@@ -24,10 +18,5 @@ returns-clause-closes c texts read _ =
 
 pub returns-in_err-reply_about-clause-left : goal.returns-in_err-reply_about-clause-left
 returns-in_err-reply_about-clause-left c texts read =
-    let limits = c.args.self.now in
-    fault_left limits.steps limits.after limits.budget c.args.words.now c.reply_about.new.book.entries texts c.args.files.now read c.in-Some.fault (sym c.in-Some.is ∙ c.named_fault.ensures.event) c.reply_about.ensures.left
-
-pub returns-clause-left : goal.returns-clause-left
-returns-clause-left c texts read =
     let limits = c.args.self.now in
     fault_left limits.steps limits.after limits.budget c.args.words.now c.reply_about.new.book.entries texts c.args.files.now read c.in-Some.fault (sym c.in-Some.is ∙ c.named_fault.ensures.event) c.reply_about.ensures.left

@@ -1,6 +1,5 @@
 use Rattle.sat_solve.proofs.Clashing.{clash_from}
-use Rattle.sat_solve.proofs.Keeping.{keeps_both}
-use Rattle.sat_solve.proofs.Putting.{learnt_one, put_for_spent}
+use Rattle.sat_solve.proofs.Putting.{put_for_spent}
 use Rattle.sat_solve.proofs.search.Search.at_conflict.Goals as goal
 
 pub returns-in-Some-clause-ended : goal.returns-in-Some-clause-ended
@@ -16,15 +15,6 @@ returns-in-Some-clause-ended g c =
       };
       unfinished = w.over.clauses;
     }
-
-pub returns-in_ok-learn-in-Some-2-clause-goes_on : goal.returns-in_ok-learn-in-Some-2-clause-goes_on
-returns-in_ok-learn-in-Some-2-clause-goes_on g c = record {
-  under_way = c.restart.ensures.under_way c.learn.new.book.entries c.learn.ensures.under_way;
-  learnt = learnt_one c.args.book.now.entries c.learn.new.book.entries c.args.budget.now c.learn.new.budget c.in_ok-learn-in-Some-2.ensures.learnt;
-}
-
-pub returns-in_ok-learn-in-Some-2-clause-kept : goal.returns-in_ok-learn-in-Some-2-clause-kept
-returns-in_ok-learn-in-Some-2-clause-kept g c = keeps_both c.args.self.now c.learn.new.self c.restart.new.self c.learn.ensures.kept c.restart.ensures.kept
 
 pub returns-in_ok-last-in-None-clause-ended : goal.returns-in_ok-last-in-None-clause-ended
 returns-in_ok-last-in-None-clause-ended g c = c.in_ok-last-in-None.ensures.ended c.args.budget.now

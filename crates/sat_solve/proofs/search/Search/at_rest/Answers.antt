@@ -6,19 +6,6 @@ use Rattle.sat_solve.proofs.Standing.{assumed_small}
 use Rattle.sat_solve.proofs.Stepping.{under_way_decided, longer_decided}
 use Rattle.sat_solve.proofs.search.Search.at_rest.Goals as goal
 
-pub fail_assumption-requires-clause-under_way : goal.fail_assumption-requires-clause-under_way
-fail_assumption-requires-clause-under_way g c = record { over = c.requires.under_way.over; under = c.requires.under_way.under; taken_first = rw c.trail-trail.ensures at c.next_assumption.ensures.taken }
-
-pub fail_assumption-requires-clause-false_now : goal.fail_assumption-requires-clause-false_now
-fail_assumption-requires-clause-false_now g c = ap (is_true c.args.self.now.propagator.literals) (sym c.negated.ensures) ∙ sym (rw c.trail-trail.ensures at c.makes_true.ensures) ∙ c.if-makes_true.true
-
-pub pick-requires-clause-few : goal.pick-requires-clause-few
-pick-requires-clause-few g c =
-    let s = c.requires.under_way.over.sound in
-    let n = s.variables in
-    let m = s.limit in
-    omega arith
-
 pub decide-requires-clause-known : goal.decide-requires-clause-known
 decide-requires-clause-known g c =
     let w = c.requires.under_way in

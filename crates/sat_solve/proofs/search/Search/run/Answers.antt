@@ -1,8 +1,6 @@
-use Rattle.des_base.proofs.Results.{on_err}
-use Rattle.std.proofs.Common.{subst, sym}
+use Rattle.std.proofs.Common.{subst}
 use Rattle.std.specs.Prelude.{Option, IfSome, IfNone}
 use Rattle.sat_solve.specs.declared.answer.Answer.{Answer}
-use Rattle.sat_solve.specs.Searching.{HasLearnt}
 use Rattle.sat_solve.specs.Solving.{GoesOn, IsEnded}
 use Rattle.sat_solve.proofs.Booking.{searched_both}
 use Rattle.sat_solve.proofs.Keeping.{keeps_both}
@@ -13,15 +11,9 @@ pub returns-in_err-answer-clause-searched : goal.returns-in_err-answer-clause-se
 returns-in_err-answer-clause-searched g c =
     searched_both c.args.book.now.entries c.more.book.entries c.step.new.book.entries c.args.budget.now c.more.budget c.step.new.budget c.more.invariant.searched c.step.ensures.searched
 
-pub returns-in_err-answer-clause-kept : goal.returns-in_err-answer-clause-kept
-returns-in_err-answer-clause-kept g c = keeps_both c.args.self.now c.more.self c.step.new.self c.more.invariant.kept c.step.ensures.kept
-
 pub returns-in-Some-clause-searched : goal.returns-in-Some-clause-searched
 returns-in-Some-clause-searched g c =
     searched_both c.args.book.now.entries c.more.book.entries c.step.new.book.entries c.args.budget.now c.more.budget c.step.new.budget c.more.invariant.searched c.step.ensures.searched
-
-pub returns-in-Some-clause-kept : goal.returns-in-Some-clause-kept
-returns-in-Some-clause-kept g c = keeps_both c.args.self.now c.more.self c.step.new.self c.more.invariant.kept c.step.ensures.kept
 
 pub returns-in-Some-clause-ended : goal.returns-in-Some-clause-ended
 returns-in-Some-clause-ended g c =
@@ -42,7 +34,3 @@ more-preserved g c =
       searched = searched_both c.args.book.now.entries c.more.book.entries c.step.new.book.entries c.args.budget.now c.more.budget c.step.new.budget c.more.invariant.searched c.step.ensures.searched;
       learnt = learnt_both c.args.book.now.entries c.more.book.entries c.step.new.book.entries c.more.invariant.learnt w.learnt;
     }
-
-pub returns-in_err-answer-clause-quit : goal.returns-in_err-answer-clause-quit
-returns-in_err-answer-clause-quit g c = on_err _ _ (subst (HasLearnt c.args.book.now.entries) (sym c.in_err-answer.ensures.unput) c.more.invariant.learnt
-    )

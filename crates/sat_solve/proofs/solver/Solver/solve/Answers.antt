@@ -2,15 +2,7 @@ use Rattle.std.proofs.Common.{◌≡◌, ◌∙◌, sym, ap, subst, ℕ}
 use Rattle.prop_core.specs.Clauses.{HasValues}
 use Rattle.sat_solve.specs.Solving.{SolverState}
 use Rattle.sat_solve.proofs.Modeling.{answers_from}
-use Rattle.sat_solve.proofs.Standing.{under_none}
 use Rattle.sat_solve.proofs.solver.Solver.solve.Goals as goal
-
-pub run-found-requires-clause-under : goal.run-found-requires-clause-under
-run-found-requires-clause-under g c =
-    let s = c.self.inside.search in
-    let same : c.args.self.now.vars ≡ s.vars = sym (ap (λ (x : SolverState _). x.vars) c.self.view_is) in
-    under_none c.args.assumptions.now s.vars s.propagator c.self.invariant.rest.level c.is_sound.ensures.state.justified.same
-    (subst (λ (n : ℕ). HasValues n c.args.assumptions.now) same c.requires.known) c.requires.compatible
 
 pub returns-clause-answer : goal.returns-clause-answer
 returns-clause-answer g c =
